@@ -1,0 +1,9 @@
+pub mod Simplices
+pub mod Determinants
+pub mod Boxes
+pub mod Meshes
+pub mod Near
+pub mod Vectors
+pub mod Planes
+pub mod Energy
+pub mod Regions
