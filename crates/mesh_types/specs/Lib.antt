@@ -1,3 +1,4 @@
 pub mod Views
 pub mod Lattice
+pub mod Limits
 pub mod Refines
