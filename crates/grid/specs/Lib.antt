@@ -7,3 +7,4 @@ pub mod Vectors
 pub mod Planes
 pub mod Energy
 pub mod Regions
+pub mod Limits
