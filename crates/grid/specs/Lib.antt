@@ -1,4 +1,5 @@
 pub mod Simplices
+pub mod Views
 pub mod Determinants
 pub mod Boxes
 pub mod Meshes
