@@ -1,0 +1,11 @@
+-- Counts of faults.
+use Rattle.std.specs.Prelude.{ℕ, ◌+◌, ◌-◌, ◌^◌, ◌≤◌, min, max}
+
+-- a count rose, or stands at its end
+abbrev pub Rose : ℕ → ℕ → Type 0
+Rose before now = min (before + 1) (2 ^ 64 - 1) ≤ now
+
+-- a count did not fall, and was not raised above its end
+pub record OnlyRises (before now : ℕ) : Type 0 where
+  pub kept : before ≤ now
+  pub ends : now ≤ max before (2 ^ 64 - 1)
