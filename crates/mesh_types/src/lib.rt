@@ -4,8 +4,10 @@
 
 mod cert;
 mod cut;
+mod laws;
 mod lists;
 
 pub use cert::Cert;
 pub use cut::Cut;
+pub use laws::{refinement_law, tiling_law};
 pub use lists::Lists;

@@ -1,0 +1,15 @@
+ghost use Rattle.mesh_types.specs.Refines.{RefinementLaw, TilingLaw};
+
+/// States that refinement keeps meshes sound, and does nothing. Where a mesh is well formed and
+/// weaves, so does its refinement by any list of edges whose ends are different points of the mesh
+/// and whose new points lie on every side of the box that both ends lie on. The new points may lie
+/// anywhere else: pieces may turn over or be flat.
+pub fn refinement_law()
+    ensures { RefinementLaw }
+{}
+
+/// States that a well-formed mesh that tiles the box weaves, and does nothing: no two positive
+/// tetrahedra have the same corners where no oriented face occurs twice.
+pub fn tiling_law()
+    ensures { TilingLaw }
+{}
