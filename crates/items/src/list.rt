@@ -69,6 +69,13 @@ impl<T: Drop> Items<T> {
         self.items.push(item)?;
         Ok(())
     }
+
+    /// Removes all elements. Takes no memory.
+    pub fn clear(&mut self)
+        ensures { self.new ≡ [] }
+    {
+        self.items.clear();
+    }
 }
 
 impl<T: Copy> Items<T> {
@@ -78,5 +85,14 @@ impl<T: Copy> Items<T> {
     {
         let items = Vec::from_slice(alloc, items)?;
         Ok(Items { items })
+    }
+
+    /// Appends a copy of the slice. Where there is no memory for it, nothing changes.
+    pub fn extend_from_slice(&mut self, items: &[T]) -> Result<(), AllocError>
+        ensures ok { OnOk result (self.new ≡ self.old ++ items.now) }
+        ensures err { OnErr result (self.new ≡ self.old) }
+    {
+        self.items.extend_from_slice(items)?;
+        Ok(())
     }
 }
