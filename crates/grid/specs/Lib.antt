@@ -9,3 +9,4 @@ pub mod Planes
 pub mod Energy
 pub mod Regions
 pub mod Limits
+pub mod Envelopes

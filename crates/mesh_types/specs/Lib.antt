@@ -2,3 +2,5 @@ pub mod Views
 pub mod Lattice
 pub mod Limits
 pub mod Refines
+pub mod Certificates
+pub mod Hull
