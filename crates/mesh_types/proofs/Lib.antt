@@ -10,6 +10,7 @@ pub mod Opened
 pub mod Between
 pub mod Counts
 pub mod Cones
+pub mod Odd
 pub mod Pairing
 pub mod Volume
 pub mod Tracked
@@ -27,4 +28,6 @@ pub mod Weaving
 -- a mesh that tiles weaves
 pub mod Turned
 pub mod Twins
+-- everything is outside where nothing is tracked
+pub mod Outside
 pub mod Example

@@ -1,7 +1,7 @@
 -- The two tests of sameness: a rotation, and the same set of corners.
 use Rattle.std.proofs.Common.{◌≡◌, ◌≢◌, ◌⊎◌, ℕ, List, [], ◌∷◌, Bool, true, false, ◌&&◌, ◌||◌, eqb, ap, refl, sym, subst, ◌∙◌, inl, inr}
 use Rattle.std.proofs.lemmas.Bool.{eq-eqb, eqb-true, and_parts, and_from, or_cases, or_left, or_right, true≢false}
-use Rattle.grid.specs.Simplices.{has, put, replaced, equal3, is_rotation, has_all, same_corners}
+use Rattle.grid.specs.Simplices.{has, put, replaced, equal3, is_rotation, reversed, has_all, same_corners}
 use Rattle.mesh_types.proofs.Replaced.{same_bools, has_cases, put_cases, has-replaced_new}
 use Rattle.mesh_types.proofs.Pieces.{IsSameness}
 
@@ -80,6 +80,34 @@ rotations = record {
   moves = λ a b x y h. rotation_from _ _ (rotation_moves a b x y (turn_of x y h));
   keeps = λ c x y h. rotation_keeps c x y (turn_of x y h);
 }
+
+-- ---- reversed faces
+pub reversed-reversed : (f : List ℕ) → reversed (reversed f) ≡ f
+reversed-reversed [] = refl
+reversed-reversed (a ∷ []) = refl
+reversed-reversed (a ∷ b ∷ []) = refl
+reversed-reversed (a ∷ b ∷ c ∷ []) = refl
+reversed-reversed (a ∷ b ∷ c ∷ d ∷ f) = refl
+
+pub has-reversed : (f : List ℕ) (o : ℕ) → has (reversed f) o ≡ has f o
+has-reversed [] o = refl
+has-reversed (a ∷ []) o = refl
+has-reversed (a ∷ b ∷ []) o = refl
+has-reversed (a ∷ b ∷ c ∷ d ∷ f) o = refl
+has-reversed (a ∷ b ∷ c ∷ []) o = swap (eqb a o) (eqb b o) (eqb c o)
+  where
+    swap : (a b c : Bool) → (a || (c || (b || false))) ≡ (a || (b || (c || false)))
+    swap true b c = refl
+    swap false true true = refl
+    swap false true false = refl
+    swap false false true = refl
+    swap false false false = refl
+
+-- a face that is the reverse of another in some rotation
+pub turn_back : (f g : List ℕ) → Turn (reversed f) g → Turn (reversed g) f
+turn_back f g (still a b c e h) = still a c b (ap reversed h) (sym (reversed-reversed f) ∙ ap reversed e)
+turn_back f g (once a b c e h) = once c b a (ap reversed h) (sym (reversed-reversed f) ∙ ap reversed e)
+turn_back f g (twice a b c e h) = twice b a c (ap reversed h) (sym (reversed-reversed f) ∙ ap reversed e)
 
 -- ---- sets of corners
 pub has_all_at : (x y : List ℕ) (c : ℕ) → has_all x y ≡ true → has y c ≡ true → has x c ≡ true

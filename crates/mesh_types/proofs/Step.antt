@@ -12,9 +12,8 @@ use Rattle.mesh_types.specs.Refines.{IsCutOf}
 use Rattle.mesh_types.proofs.Sums.{count_by-total}
 use Rattle.mesh_types.proofs.Replaced.{has-replaced_new}
 use Rattle.mesh_types.proofs.Pieces.{kept, gone, at_v, at_u, fresh, kind_of}
-use Rattle.mesh_types.proofs.Same.{corner_sets, has-replaced_stays}
+use Rattle.mesh_types.proofs.Same.{has-reversed, corner_sets, has-replaced_stays}
 use Rattle.mesh_types.proofs.Counts.{IsReady, old_tets, between-at_most, between-reversed, number-kept, number-gone, number-at_v, number-at_u, number-fresh, count-kept, count-gone, count-at_v, count-at_u, count-fresh}
-use Rattle.mesh_types.proofs.Pairing.{has-reversed}
 use Rattle.int_algebra.proofs.Laws.{linear}
 use Rattle.int_algebra.proofs.Ring.{of_naturals}
 

@@ -4,3 +4,4 @@ pub mod Limits
 pub mod Refines
 pub mod Certificates
 pub mod Hull
+pub mod Outside

@@ -1,3 +1,4 @@
+ghost use Rattle.mesh_types.specs.Outside.{AllOutsideLaw};
 ghost use Rattle.mesh_types.specs.Refines.{RefinementLaw, TilingLaw};
 
 /// States that refinement keeps meshes sound, and does nothing. Where a mesh is well formed and
@@ -12,4 +13,11 @@ pub fn refinement_law()
 /// tetrahedra have the same corners where no oriented face occurs twice.
 pub fn tiling_law()
     ensures { TilingLaw }
+{}
+
+/// States that in a well-formed mesh that tiles the box and tracks no face every tetrahedron is
+/// outside, and does nothing: positive tetrahedra cannot close on themselves, so each is reached
+/// from a face that has no reverse.
+pub fn all_outside_law()
+    ensures { AllOutsideLaw }
 {}

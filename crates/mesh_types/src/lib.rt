@@ -9,5 +9,5 @@ mod lists;
 
 pub use cert::Cert;
 pub use cut::Cut;
-pub use laws::{refinement_law, tiling_law};
+pub use laws::{all_outside_law, refinement_law, tiling_law};
 pub use lists::Lists;
