@@ -8,5 +8,6 @@ pub mod Vectors
 pub mod Planes
 pub mod Energy
 pub mod Regions
+pub mod Rims
 pub mod Limits
 pub mod Envelopes
