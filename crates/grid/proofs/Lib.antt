@@ -1,2 +1,4 @@
 pub mod Members
 pub mod Rotations
+pub mod VectorExpressions
+pub mod Gaps

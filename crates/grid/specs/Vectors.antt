@@ -26,3 +26,24 @@ opposite m = record { x = pos 0 -ℤ m.x; y = pos 0 -ℤ m.y; z = pos 0 -ℤ m.z
 -- the components in a row, as an array holds them
 abbrev pub components : Vector → List ℤ
 components m = m.x ∷ m.y ∷ m.z ∷ []
+
+-- ---- sums of vectors
+-- m - n
+unfoldable pub minus : Vector → Vector → Vector
+minus m n = record { x = m.x -ℤ n.x; y = m.y -ℤ n.y; z = m.z -ℤ n.z }
+
+-- k m
+unfoldable pub scaled : ℤ → Vector → Vector
+scaled k m = record { x = k *ℤ m.x; y = k *ℤ m.y; z = k *ℤ m.z }
+
+-- v m + w n
+unfoldable pub sum_of_two : (v w : ℤ) → (m n : Vector) → Vector
+sum_of_two v w m n = record { x = v *ℤ m.x +ℤ w *ℤ n.x; y = v *ℤ m.y +ℤ w *ℤ n.y; z = v *ℤ m.z +ℤ w *ℤ n.z }
+
+-- u l + v m + w n
+unfoldable pub sum_of_three : (u v w : ℤ) → (l m n : Vector) → Vector
+sum_of_three u v w l m n = record {
+  x = u *ℤ l.x +ℤ v *ℤ m.x +ℤ w *ℤ n.x;
+  y = u *ℤ l.y +ℤ v *ℤ m.y +ℤ w *ℤ n.y;
+  z = u *ℤ l.z +ℤ v *ℤ m.z +ℤ w *ℤ n.z;
+}

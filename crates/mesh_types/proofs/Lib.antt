@@ -31,3 +31,5 @@ pub mod Twins
 -- everything is outside where nothing is tracked
 pub mod Outside
 pub mod Example
+-- the hull of three near points
+pub mod WeightedMeans
