@@ -30,6 +30,7 @@ pub mod Turned
 pub mod Twins
 -- everything is outside where nothing is tracked
 pub mod Outside
-pub mod Example
 -- the hull of three near points
 pub mod WeightedMeans
+-- the definitions at one cube
+pub mod Example

@@ -1,3 +1,4 @@
+pub mod Geometry
 pub mod Views
 pub mod Lattice
 pub mod Limits

@@ -1,5 +1,13 @@
+ghost use Rattle.mesh_types.specs.Hull.{HullLaw};
 ghost use Rattle.mesh_types.specs.Outside.{AllOutsideLaw};
 ghost use Rattle.mesh_types.specs.Refines.{RefinementLaw, TilingLaw};
+
+/// States that the envelope of one triangle is convex, and does nothing. Where three points are at
+/// distance at most epsilon from one triangle, so is each of their means with whole weights that are
+/// not negative. So a face whose corners are all near to one triangle lies in the envelope.
+pub fn hull_law()
+    ensures { HullLaw }
+{}
 
 /// States that refinement keeps meshes sound, and does nothing. Where a mesh is well formed and
 /// weaves, so does its refinement by any list of edges whose ends are different points of the mesh

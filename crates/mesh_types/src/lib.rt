@@ -4,12 +4,10 @@
 
 mod cert;
 mod cut;
-mod hull;
 mod laws;
 mod lists;
 
 pub use cert::Cert;
 pub use cut::Cut;
-pub use hull::hull_law;
-pub use laws::{all_outside_law, refinement_law, tiling_law};
+pub use laws::{all_outside_law, hull_law, refinement_law, tiling_law};
 pub use lists::Lists;

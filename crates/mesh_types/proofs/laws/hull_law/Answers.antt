@@ -1,5 +1,5 @@
 use Rattle.mesh_types.proofs.WeightedMeans as WeightedMeans
-use Rattle.mesh_types.proofs.hull.hull_law.Goals as goal
+use Rattle.mesh_types.proofs.laws.hull_law.Goals as goal
 
 pub returns : goal.returns
 returns c = WeightedMeans.hull_law
