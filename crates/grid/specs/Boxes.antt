@@ -1,5 +1,5 @@
 -- The box and its six sides, and points and triangles in it.
-use Rattle.std.specs.Prelude.{◌≡◌, ℕ, Bool, true, false, cond, ℤ, pos, ◌≤ℤ◌, List, slice_index_or}
+use Rattle.std.specs.Prelude.{◌≡◌, ℕ, Bool, true, cond, ℤ, pos, ◌≤ℤ◌, List, slice_index_or}
 use Rattle.grid.specs.declared.shapes.Point.{Point}
 use Rattle.grid.specs.declared.shapes.Tri.{Tri}
 use Rattle.grid.specs.Simplices.{has}

@@ -2,6 +2,8 @@ pub mod Simplices
 pub mod Views
 pub mod Determinants
 pub mod Boxes
+pub mod SideBits
+pub mod Edges
 pub mod Meshes
 pub mod Near
 pub mod Vectors

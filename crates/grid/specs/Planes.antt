@@ -1,5 +1,5 @@
 -- Planes, the sides of a triangle, snapped signs and crossing points.
-use Rattle.std.specs.Prelude.{◌≡◌, ℕ, ◌+◌, ◌*◌, ◌%◌, ◌^◌, Bool, ◌&&◌, nat_le, nat_abs, if◌then◌else◌, ℤ, pos, ◌+ℤ◌, ◌-ℤ◌, ◌*ℤ◌}
+use Rattle.std.specs.Prelude.{◌≡◌, ℕ, ◌+◌, ◌*◌, ◌%◌, ◌^◌, ◌&&◌, nat_le, nat_abs, if◌then◌else◌, ℤ, pos, ◌+ℤ◌, ◌*ℤ◌}
 use Rattle.std.specs.Int.Signed.{lt_z}
 use Rattle.std.specs.Int.{int_signum, int_div_euclid}
 use Rattle.grid.specs.declared.shapes.Point.{Point}

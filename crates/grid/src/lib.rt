@@ -3,8 +3,14 @@
 //! regions.
 #![tactic(auto)]
 
+mod boxes;
+mod determinants;
 mod memory;
 mod shapes;
+#[cfg(test)]
+mod tests;
 
+pub use boxes::sides;
+pub use determinants::{det, sq_dist};
 pub use memory::Memory;
 pub use shapes::{Face, Point, Tet, Tri};
