@@ -5,11 +5,13 @@ use Rattle.grid.specs.declared.shapes.Tri.{Tri}
 use Rattle.grid.specs.Simplices.{has}
 use Rattle.grid.specs.Determinants.{origin, point_at}
 
+-- the three directions of the grid
 pub data Axis : Type 0 where
   along_x : Axis
   along_y : Axis
   along_z : Axis
 
+-- the coordinate of a point along an axis
 abbrev pub coordinate : Axis → Point → ℤ
 coordinate along_x p = p.x
 coordinate along_y p = p.y
@@ -40,6 +42,7 @@ pub record IsInBox (n : ℕ) (p : Point) : Type 0 where
   pub y_in : IsUpTo n p.y
   pub z_in : IsUpTo n p.z
 
+-- three points in the box from 0 to n
 pub record AreInBox (n : ℕ) (a b c : Point) : Type 0 where
   pub a_in : IsInBox n a
   pub b_in : IsInBox n b
@@ -49,5 +52,6 @@ pub record AreInBox (n : ℕ) (a b c : Point) : Type 0 where
 abbrev pub corner_of : Tri → ℕ → Point
 corner_of tri i = slice_index_or tri.0 i origin
 
+-- a triangle whose corners are in the box from 0 to n
 abbrev pub IsTriInBox : ℕ → Tri → Type 0
 IsTriInBox n tri = AreInBox n (corner_of tri 0) (corner_of tri 1) (corner_of tri 2)

@@ -20,6 +20,7 @@ det a b c d =
 unfoldable pub sq_dist : Point → Point → ℤ
 sq_dist a b = ((a.x -ℤ b.x) *ℤ (a.x -ℤ b.x)) +ℤ ((a.y -ℤ b.y) *ℤ (a.y -ℤ b.y)) +ℤ ((a.z -ℤ b.z) *ℤ (a.z -ℤ b.z))
 
+-- the point 0, 0, 0
 abbrev pub origin : Point
 origin = record { x = pos 0; y = pos 0; z = pos 0 }
 

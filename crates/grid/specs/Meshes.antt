@@ -14,6 +14,7 @@ pub record Mesh : Type 0 where
   pub made : ℕ
 
 -- ---- the order of triples
+-- x stands before y, as words do in a dictionary
 abbrev pub is_below : List ℕ → List ℕ → Bool
 is_below [] [] = false
 is_below [] (b ∷ y) = true
@@ -32,23 +33,28 @@ pub record IsTriple (n : ℕ) (t : List ℕ) : Type 0 where
   pub rises : Rises t
   pub in_range : All (λ c. c < n) t
 
+-- tetrahedra have four different corners that are points, tracked triples rise and stand in rising order, without repeats
 pub record IsWellFormed (m : Mesh) : Type 0 where
   pub tets_are : All (IsTet (length m.points)) m.tets
   pub triples_are : All (IsTriple (length m.points)) m.tracked
   pub ordered : Ordered m.tracked
   pub made_is : length m.tets ≤ m.made
 
+-- the most points that a mesh may have
 abbrev pub most_points : ℕ
 most_points = 2 ^ 20
 
+-- the most tetrahedra that may ever be made
 abbrev pub most_made : ℕ
 most_made = 2 ^ 22
 
+-- the mesh has no more than these
 pub record IsWithinLimits (m : Mesh) : Type 0 where
   pub points_few : length m.points ≤ most_points
   pub made_few : m.made ≤ most_made
 
 -- ---- pairing and volume
+-- what a mesh that fills the box from 0 to length_of has, whatever the signs of its tetrahedra
 pub record Fills (m : Mesh) (length_of : ℕ) : Type 0 where
   -- no oriented face occurs twice
   pub once : (a b c : ℕ) → count (a ∷ b ∷ c ∷ []) m.tets ≤ 1

@@ -35,6 +35,7 @@ snap_sign m p =
     if lt_z (pos (m.snap ^ 2) *ℤ dot m.normal m.normal) (value_of m p *ℤ value_of m p) then int_signum (value_of m p) else pos 0
 
 -- ---- the sides of a triangle
+-- the vector of length 1 along an axis
 abbrev pub unit_of : Axis → Vector
 unit_of along_x = record { x = pos 1; y = pos 0; z = pos 0 }
 unit_of along_y = record { x = pos 0; y = pos 1; z = pos 0 }

@@ -2,11 +2,13 @@
 use Rattle.std.specs.Prelude.{ℤ, pos, ◌+ℤ◌, ◌-ℤ◌, ◌*ℤ◌, List, [], ◌∷◌}
 use Rattle.grid.specs.declared.shapes.Point.{Point}
 
+-- a vector by its components
 pub record Vector : Type 0 where
   pub x : ℤ
   pub y : ℤ
   pub z : ℤ
 
+-- the vector 0, 0, 0
 abbrev pub no_vector : Vector
 no_vector = record { x = pos 0; y = pos 0; z = pos 0 }
 
@@ -14,12 +16,15 @@ no_vector = record { x = pos 0; y = pos 0; z = pos 0 }
 abbrev pub difference : Point → Point → Vector
 difference a b = record { x = a.x -ℤ b.x; y = a.y -ℤ b.y; z = a.z -ℤ b.z }
 
+-- the scalar product
 unfoldable pub dot : Vector → Vector → ℤ
 dot m n = (m.x *ℤ n.x) +ℤ (m.y *ℤ n.y) +ℤ (m.z *ℤ n.z)
 
+-- the vector product
 abbrev pub cross : Vector → Vector → Vector
 cross m n = record { x = (m.y *ℤ n.z) -ℤ (m.z *ℤ n.y); y = (m.z *ℤ n.x) -ℤ (m.x *ℤ n.z); z = (m.x *ℤ n.y) -ℤ (m.y *ℤ n.x) }
 
+-- the vector with all signs changed
 abbrev pub opposite : Vector → Vector
 opposite m = record { x = pos 0 -ℤ m.x; y = pos 0 -ℤ m.y; z = pos 0 -ℤ m.z }
 

@@ -12,6 +12,7 @@ gather (suc n) f = gather n f ++ f n
 abbrev pub at_places : {X : Type 0} → ℕ → (ℕ → ℕ → ℕ → List X) → List X
 at_places n f = gather n (λ k. gather n (λ j. gather n (λ i. f i j k)))
 
+-- the point of three natural numbers
 abbrev pub point : ℕ → ℕ → ℕ → Point
 point x y z = record { x = pos x; y = pos y; z = pos z }
 
@@ -23,6 +24,7 @@ lattice_points h n = at_places (n + 1) (λ i j k. point (i * h) (j * h) (k * h) 
 abbrev pub number_at : ℕ → ℕ → ℕ → ℕ → ℕ
 number_at n i j k = i + (n + 1) * j + (n + 1) ^ 2 * k
 
+-- the tetrahedron of four corners
 abbrev pub tet : ℕ → ℕ → ℕ → ℕ → List ℕ
 tet a b c d = a ∷ b ∷ c ∷ d ∷ []
 
@@ -37,6 +39,7 @@ paths at =
 abbrev pub cube : ℕ → ℕ → ℕ → ℕ → List (List ℕ)
 cube n i j k = paths (λ x y z. number_at n (i + x) (j + y) (k + z))
 
+-- the tetrahedra of all cubes
 abbrev pub lattice_tets : ℕ → List (List ℕ)
 lattice_tets n = at_places n (cube n)
 

@@ -19,18 +19,22 @@ is_touched [] x = false
 is_touched (e ∷ es) x = (has x e.u && has x e.v) || is_touched es x
 
 -- ---- rising order of triples
+-- x, put before the first triple that is not below it
 abbrev pub insert_triple : List ℕ → List (List ℕ) → List (List ℕ)
 insert_triple x [] = x ∷ []
 insert_triple x (y ∷ ys) = cond (is_below y x) (y ∷ insert_triple x ys) (x ∷ y ∷ ys)
 
+-- the triples in rising order
 abbrev pub in_order : List (List ℕ) → List (List ℕ)
 in_order [] = []
 in_order (x ∷ xs) = insert_triple x (in_order xs)
 
 -- ---- the refined mesh
+-- the pieces of the tetrahedra that have both ends of a cut, in order
 abbrev pub new_pieces : Mesh → List Cut → List (List ℕ)
 new_pieces m es = flat_map (sub_all (length m.points) es) (filter (λ x. is_touched es x) m.tets)
 
+-- the mesh refined: the points of the cuts, the tetrahedra that no cut touches and then the pieces of the others, and the tracked triples split likewise
 unfoldable pub refine : Mesh → List Cut → Mesh
 refine m es = record {
   points = m.points ++ map (λ e. e.at) es;
