@@ -24,6 +24,7 @@ pub mod Kept
 pub mod Order
 pub mod Found
 pub mod WellFormed
+pub mod TripleSets
 pub mod Weaving
 -- a mesh that tiles weaves
 pub mod Turned

@@ -26,7 +26,7 @@ below_first a b x y h = or_left (ltb a b) (eqb a b && is_below x y) (lt-ltb a b 
 below_rest : (a b : ℕ) (x y : List ℕ) → a ≡ b → is_below x y ≡ true → is_below (a ∷ x) (b ∷ y) ≡ true
 below_rest a b x y e h = or_right (ltb a b) (eqb a b && is_below x y) (and_from (eqb a b) (is_below x y) (eq-eqb a b e) h)
 
-below_trans : (x y z : List ℕ) → is_below x y ≡ true → is_below y z ≡ true → is_below x z ≡ true
+pub below_trans : (x y z : List ℕ) → is_below x y ≡ true → is_below y z ≡ true → is_below x z ≡ true
 below_trans [] [] z g h = absurd (true≢false (sym g))
 below_trans [] (b ∷ y) [] g h = absurd (true≢false (sym h))
 below_trans [] (b ∷ y) (c ∷ z) g h = refl
@@ -37,14 +37,14 @@ below_trans (a ∷ x) (b ∷ y) (c ∷ z) g h = elim (below_cases a b x y g) [
   | inr e ↦ elim (below_cases b c y z h) [ inl f ↦ let k = e.0 in below_first a c x z (omega arith) | inr f ↦ below_rest a c x z (e.0 ∙ f.0) (below_trans x y z e.1 f.1) ]
 ]
 
-below_not : (x : List ℕ) → is_below x x ≡ false
+pub below_not : (x : List ℕ) → is_below x x ≡ false
 below_not [] = refl
 below_not (a ∷ x) = false_from_ne_true (is_below (a ∷ x) (a ∷ x)) (λ h. elim (below_cases a a x x h) [ inl e ↦ never a e | inr e ↦ true≢false (sym e.1 ∙ below_not x) ])
   where
     never : (a : ℕ) → a < a → ⊥
     never a h = omega arith
 
-below_or : (x y : List ℕ) → x ≢ y → is_below y x ≡ false → is_below x y ≡ true
+pub below_or : (x y : List ℕ) → x ≢ y → is_below y x ≡ false → is_below x y ≡ true
 below_or [] [] n h = absurd (n refl)
 below_or [] (b ∷ y) n h = refl
 below_or (a ∷ x) [] n h = absurd (true≢false h)

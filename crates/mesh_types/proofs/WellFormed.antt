@@ -150,12 +150,12 @@ number-rising y (x ∷ xs) = ap₂ ◌+ℤ◌ (ap bit (same_bools (same_corners 
     (λ h. same_corners_from y (rising x) (λ c. same_corners_at y x h c ∙ sym (has-rising x c))))) (number-rising y xs)
 
 -- ---- the whole
-pub refine-IsWellFormed : (m : Mesh) (l : ℕ) (es : List Cut) → All (IsCutOf m.points l) es → IsWellFormed m → IsWellFormed (refine m es)
+-- wherever the new points lie
+pub refine-well_formed : (m : Mesh) (es : List Cut) → Each (IsEdge (length m.points)) es → IsWellFormed m → IsWellFormed (refine m es)
 unfolding refine
-refine-IsWellFormed m l es cuts w =
+refine-well_formed m es edges w =
     let k = length m.points in
     let g = sub_all k es in
-    let edges = Each-weaker (IsCutOf m.points l) (IsEdge k) (λ e c. record { ends_differ = c.ends_differ; first_in = c.first_in; second_in = c.second_in }) es (recursion_from_All (IsCutOf m.points l) es cuts) in
     let old = recursion_from_All (IsTriple k) m.tracked w.triples_are in
     let triples = Each-weaker (IsTriple k) (Triple k) (triple_of k) m.tracked old in
     let n : k + length es ≡ length (m.points ++ map (λ e. e.at) es) = sym (length-append m.points (map (λ e. e.at) es) ∙ ap (λ t. k + t) (length-map es (λ e. e.at))) in
@@ -175,3 +175,7 @@ refine-IsWellFormed m l es cuts w =
   where
     made : {a f c t : ℕ} (b : ℕ) → a ≤ b → (n : ℕ) → t ≡ f + n → f ≡ c → c ≤ a → t ≤ b + n
     made b h n e g i = omega arith
+
+pub refine-IsWellFormed : (m : Mesh) (l : ℕ) (es : List Cut) → All (IsCutOf m.points l) es → IsWellFormed m → IsWellFormed (refine m es)
+refine-IsWellFormed m l es cuts w =
+    refine-well_formed m es (Each-weaker (IsCutOf m.points l) (IsEdge (length m.points)) (λ e c. record { ends_differ = c.ends_differ; first_in = c.first_in; second_in = c.second_in }) es (recursion_from_All (IsCutOf m.points l) es cuts)) w

@@ -3,6 +3,8 @@ pub mod Views
 pub mod Lattice
 pub mod Limits
 pub mod Refines
+pub mod CutLists
+pub mod Tracking
 pub mod Certificates
 pub mod Hull
 pub mod Outside
