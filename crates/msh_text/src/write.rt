@@ -1,0 +1,147 @@
+ghost use Rattle.std.specs.Prelude.{◌≡◌, ◌+◌, ◌<◌, ◌^◌, ◌++◌, ◌∷◌, [], length, decimal, OnOk, IfOk};
+ghost use Rattle.std.specs.Fmt.{signed_decimal};
+ghost use Rattle.std.specs.List.{enumerate_from, flat_map};
+ghost use Rattle.msh_text.specs.Text.{count_line, face_line, msh_text, node_line, spaced, spaced_signed, tet_line};
+
+use crate::file_mesh::{MshMesh, MshNode, MshTet};
+use grid::{Face, Memory};
+use itoa::Buffer;
+use std::alloc::Global;
+
+// Bytes that no line is longer than, for coordinates of ten digits and a sign.
+const LINE: usize = 48;
+
+fn put(out: &mut Vec<u8>, text: &[u8]) -> Result<(), Memory>
+    ensures { OnOk result (out.new.items ≡ out.old.items ++ text.now) }
+{
+    out.extend_from_slice(text)?;
+    Ok(())
+}
+
+// Each number behind a space.
+fn put_spaced(out: &mut Vec<u8>, buffer: &mut Buffer, numbers: &[u32]) -> Result<(), Memory>
+    ensures { OnOk result (out.new.items ≡ out.old.items ++ spaced numbers.now) }
+{
+    for n in numbers {
+        put(out, b" ")?;
+        put(out, buffer.format(*n).as_bytes())?;
+    }
+    Ok(())
+}
+
+fn put_spaced_signed(out: &mut Vec<u8>, buffer: &mut Buffer, numbers: &[i64]) -> Result<(), Memory>
+    ensures { OnOk result (out.new.items ≡ out.old.items ++ spaced_signed numbers.now) }
+{
+    for n in numbers {
+        put(out, b" ")?;
+        put(out, buffer.format(*n).as_bytes())?;
+    }
+    Ok(())
+}
+
+fn put_count(out: &mut Vec<u8>, count: usize) -> Result<(), Memory>
+    ensures { OnOk result (out.new.items ≡ out.old.items ++ count_line count) }
+{
+    let mut buffer = Buffer::new();
+    put(out, buffer.format(count).as_bytes())?;
+    put(out, b"\n")
+}
+
+fn put_node(out: &mut Vec<u8>, buffer: &mut Buffer, node: &MshNode) -> Result<(), Memory>
+    ensures { OnOk result (out.new.items ≡ out.old.items ++ node_line node.now) }
+{
+    put(out, buffer.format(node.number).as_bytes())?;
+    put_spaced_signed(out, buffer, &node.at)?;
+    put(out, b"\n")
+}
+
+fn put_nodes(out: &mut Vec<u8>, nodes: &[MshNode]) -> Result<(), Memory>
+    ensures { OnOk result (out.new.items ≡ out.old.items ++ flat_map node_line nodes.now) }
+{
+    let mut buffer = Buffer::new();
+    for node in nodes {
+        put_node(out, &mut buffer, node)?;
+    }
+    Ok(())
+}
+
+fn put_tet(
+    out: &mut Vec<u8>,
+    buffer: &mut Buffer,
+    number: usize,
+    tet: &MshTet,
+) -> Result<(), Memory>
+    ensures { OnOk result (out.new.items ≡ out.old.items ++ tet_line (number, tet.now)) }
+{
+    let tag = u32::from(tet.tag);
+    put(out, buffer.format(number).as_bytes())?;
+    put(out, b" 4 2")?;
+    put_spaced(out, buffer, &[tag, tag])?;
+    put_spaced(out, buffer, &tet.corners)?;
+    put(out, b"\n")
+}
+
+fn put_tets(out: &mut Vec<u8>, tets: &[MshTet]) -> Result<(), Memory>
+    ensures { OnOk result (out.new.items ≡ out.old.items ++ flat_map tet_line (enumerate_from 1 tets.now)) }
+{
+    let mut buffer = Buffer::new();
+    let mut number = 1;
+    for tet in tets {
+        put_tet(out, &mut buffer, number, tet)?;
+        number += 1;
+    }
+    Ok(())
+}
+
+fn put_face(
+    out: &mut Vec<u8>,
+    buffer: &mut Buffer,
+    number: usize,
+    face: &Face,
+) -> Result<(), Memory>
+    ensures { OnOk result (out.new.items ≡ out.old.items ++ face_line (number, face.now)) }
+{
+    put(out, buffer.format(number).as_bytes())?;
+    put(out, b" 2 2 3 3")?;
+    put_spaced(out, buffer, &face.0)?;
+    put(out, b"\n")
+}
+
+fn put_faces(out: &mut Vec<u8>, first: usize, faces: &[Face]) -> Result<(), Memory>
+    requires { first + length faces.now < 2 ^ 64 }
+    ensures { OnOk result (out.new.items ≡ out.old.items ++ flat_map face_line (enumerate_from first faces.now)) }
+{
+    let mut buffer = Buffer::new();
+    let mut number = first;
+    for face in faces {
+        put_face(out, &mut buffer, number, face)?;
+        number += 1;
+    }
+    Ok(())
+}
+
+/// The text of a mesh file, which Gmsh reads: the nodes, then the tetrahedra and the tracked faces,
+/// numbered from 1.
+#[tactic(auto, unfolding(crate::specs::Text::msh_text, crate::specs::Text::head))]
+pub fn write_msh(alloc: Global, mesh: &MshMesh) -> Result<Vec<u8>, Memory>
+    ensures { IfOk result (λ bytes. bytes.items ≡ msh_text mesh.now) }
+{
+    let nodes = mesh.nodes.as_slice();
+    let tets = mesh.tets.as_slice();
+    let tracked = mesh.tracked.as_slice();
+    let elements = tets.len() + tracked.len();
+    let lines = elements.saturating_add(nodes.len());
+    let mut out = Vec::with_capacity(alloc, lines.saturating_mul(LINE))?;
+    put(
+        &mut out,
+        b"$MeshFormat\n2.2 0 8\n$EndMeshFormat\n$PhysicalNames\n3\n2 3 \"tracked\"\n3 1 \"kept\"\n3 2 \"outside\"\n$EndPhysicalNames\n$Nodes\n",
+    )?;
+    put_count(&mut out, nodes.len())?;
+    put_nodes(&mut out, nodes)?;
+    put(&mut out, b"$EndNodes\n$Elements\n")?;
+    put_count(&mut out, elements)?;
+    put_tets(&mut out, tets)?;
+    put_faces(&mut out, tets.len() + 1, tracked)?;
+    put(&mut out, b"$EndElements\n")?;
+    Ok(out)
+}
