@@ -1,0 +1,4 @@
+pub mod Ranges
+pub mod Powers
+pub mod Boxed
+pub mod Measures

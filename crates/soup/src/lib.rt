@@ -1,0 +1,16 @@
+//! Input soups of triangles, and their placement in a box of the grid. `specs/` defines the box: its
+//! side, its shift and the placed triangles.
+#![tactic(auto)]
+
+mod measure;
+mod moves;
+mod placing;
+mod range;
+mod raw;
+mod sides;
+
+pub use placing::{PlaceIssue, place};
+pub use raw::{Raw, Soup};
+
+#[cfg(test)]
+mod tests;
