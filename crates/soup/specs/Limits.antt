@@ -3,6 +3,7 @@ use Rattle.std.specs.Prelude.{ℕ, ◌<◌, ◌≤◌, ◌^◌, ℤ, pos, List, 
 use Rattle.int_algebra.specs.Within.{IsWithin}
 use Rattle.soup.specs.declared.raw.Raw.{Raw}
 
+-- the largest absolute value of an input coordinate
 abbrev pub largest_coordinate : ℕ
 largest_coordinate = 10 ^ 9
 

@@ -19,7 +19,7 @@ unfoldable pub least : ℕ → List (List ℤ) → ℤ
 least axis [] = pos 0
 least axis (v ∷ vs) = fold int_min (along axis v) (map (along axis) vs)
 
--- the greatest
+-- the greatest coordinate of the vertices along an axis, and 0 where there are none
 unfoldable pub greatest : ℕ → List (List ℤ) → ℤ
 greatest axis [] = pos 0
 greatest axis (v ∷ vs) = fold int_max (along axis v) (map (along axis) vs)
@@ -68,6 +68,7 @@ placed_point moved v = record { x = along 0 v -ℤ along 0 moved; y = along 1 v 
 abbrev pub placed_corner : (moved : List ℤ) → List (List ℤ) → List ℕ → ℕ → Point
 placed_corner moved vs f i = placed_point moved (slice_index_or vs (slice_index f i) [])
 
+-- a triangle by its corners as points of the grid
 abbrev pub placed_triangle : (moved : List ℤ) → List (List ℤ) → List ℕ → Tri
 placed_triangle moved vs f = record { 0 = placed_corner moved vs f 0 ∷ placed_corner moved vs f 1 ∷ placed_corner moved vs f 2 ∷ [] }
 
@@ -96,11 +97,13 @@ pub record IsInside (margin n : ℕ) (z : ℤ) : Type 0 where
   pub low : pos margin ≤ℤ z
   pub high : (z +ℤ pos margin) ≤ℤ pos n
 
+-- a point whose coordinates are
 pub record IsPointInside (margin n : ℕ) (p : Point) : Type 0 where
   pub x_inside : IsInside margin n p.x
   pub y_inside : IsInside margin n p.y
   pub z_inside : IsInside margin n p.z
 
+-- a triangle whose corners are
 pub record IsTriInside (margin n : ℕ) (t : Tri) : Type 0 where
   pub a_inside : IsPointInside margin n (corner_of t 0)
   pub b_inside : IsPointInside margin n (corner_of t 1)

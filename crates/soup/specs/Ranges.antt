@@ -13,6 +13,7 @@ pub record IsRangeOf (axis : ℕ) (vs : List (List ℤ)) (r : Range) : Type 0 wh
   pub greatest_is : r.greatest ≡ greatest axis vs
   pub least_in : IsWithin largest_coordinate r.least
 
+-- the ranges of the vertices, and the extent
 pub record IsMeasureOf (raw : Raw) (m : Measure) : Type 0 where
   pub x : IsRangeOf 0 raw.vertices m.x
   pub y : IsRangeOf 1 raw.vertices m.y
