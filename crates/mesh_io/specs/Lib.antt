@@ -1,5 +1,11 @@
+pub mod Fails
 pub mod Faults
 pub mod Folder
+pub mod MemFiles
+pub mod MemFolder
+pub mod MemPlace
+pub mod MemSink
+pub mod MemState
 pub mod New
 pub mod Read
 pub mod Sink
