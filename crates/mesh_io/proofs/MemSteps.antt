@@ -72,9 +72,9 @@ read_some m i at n reads into reading differ within chunk count bytes =
       failed = tt;
       err = tt;
     } where
-  length-zero : (xs : List ℕ) → length xs ≡ 0 → xs ≡ []
-  length-zero [] e = refl
-  length-zero (x ∷ xs) e = absurd (omega (arith, e))
+      length-zero : (xs : List ℕ) → length xs ≡ 0 → xs ≡ []
+      length-zero [] e = refl
+      length-zero (x ∷ xs) e = absurd (omega (arith, e))
 
 -- bytes are appended to the file that is written
 pub write_some : (m : MemState) (files : List MemFile) (i n writes : ℕ) (bytes : List ℕ) → m.writing ≡ Some i → i < length m.files → AllNamesDiffer m.files → files ≡ put m.files i (bytes_at m.files i ++ take n bytes) → n ≤ length bytes → (0 < length bytes → 0 < n) → WritesSome (folder_state m) (folder_state (record m { files = files; writes = writes })) bytes (Ok n)

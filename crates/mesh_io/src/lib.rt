@@ -14,6 +14,8 @@ mod read;
 mod real_folder;
 mod real_sink;
 mod sink;
+#[cfg(test)]
+mod tests;
 mod write;
 
 pub use folder::{Failed, Folder, OpenIssue};

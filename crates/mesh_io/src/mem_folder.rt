@@ -46,12 +46,7 @@ impl MemFolder {
     /// or created, and no fault is counted. Takes no memory.
     ///
     /// A folder that lists no `open` and no `read` never counts a fault of reading.
-    pub fn new(
-        alloc: Global,
-        files: Vec<MemFile>,
-        fails: Vec<MemFail>,
-        chunk: usize,
-    ) -> MemFolder
+    pub fn new(alloc: Global, files: Vec<MemFile>, fails: Vec<MemFail>, chunk: usize) -> MemFolder
         requires chunk { 0 < chunk }
         requires names { AllNamesDiffer files.items }
         ensures value { result ≡ new_mem_state files.items fails.items chunk }
