@@ -1,12 +1,10 @@
 -- Lists of calls that are to fail.
-use Rattle.std.proofs.Common.{◌≡◌, ◌≢◌, ℕ, ◌+◌, ◌≤◌, ◌==◌, ◌&&◌, ◌||◌, Bool, true, false, List, [], ◌∷◌, Result, Err, refl, sym, ◌∙◌, arith, min, ◌-◌, ◌^◌}
-use Rattle.std.specs.List.{list_any}
+use Rattle.std.proofs.Common.{◌≡◌, ℕ, ◌≤◌, ◌==◌, ◌&&◌, ◌||◌, Bool, true, false, List, [], ◌∷◌, Err, refl, arith}
 use Rattle.mesh_io.specs.Faults.{counted}
 use Rattle.mesh_io.specs.Fails.{is_same_kind, is_listed, is_reading, lists_reading}
 use Rattle.mesh_io.specs.Folder.{Opens, Reads}
 use Rattle.mesh_io.specs.MemState.{MemState, folder_state}
 use Rattle.mesh_io.specs.declared.folder.Failed.{Failed}
-use Rattle.mesh_io.specs.declared.folder.OpenIssue.{OpenIssue}
 use Rattle.mesh_io.specs.declared.folder.OpenIssue.TheVariants as open_issue
 use Rattle.mesh_io.specs.declared.mem_file.CallKind.{CallKind}
 use Rattle.mesh_io.specs.declared.mem_file.CallKind.TheVariants.{Open, Read, Create, Write}

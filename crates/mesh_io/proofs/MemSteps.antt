@@ -1,12 +1,10 @@
 -- The calls of a folder in memory.
-use Rattle.std.proofs.Common.{◌≡◌, ◌≢◌, ℕ, suc, zero, ◌+◌, ◌<◌, ◌≤◌, Bool, true, false, List, [], ◌∷◌, ◌++◌, length, Option, None, Some, Result, Ok, Err, refl, sym, ◌∙◌, ap, subst, arith, take, drop, unwrap_or, cond, ◌==◌, is_some, IfSome, eq-eqb, min, ◌-◌, ◌^◌}
+use Rattle.std.proofs.Common.{◌≡◌, ◌≢◌, ℕ, ◌+◌, ◌<◌, ◌≤◌, Bool, true, false, List, [], ◌∷◌, ◌++◌, length, Option, None, Some, Ok, refl, sym, ◌∙◌, ap, arith, take, drop, unwrap_or, cond, ◌==◌, is_some, IfSome, eq-eqb, min}
 use Rattle.std.proofs.lemmas.Bool.Decides.{Decides-eqb}
-use Rattle.mesh_io.specs.Folder.{FolderState, Puts, content_of, Appends, WritesSome, WriteCall, SameWriting, IsCreated, Creates, Opens, Reads, left}
+use Rattle.mesh_io.specs.Folder.{Puts, content_of, WritesSome, Creates, Opens, Reads, left}
 use Rattle.mesh_io.specs.MemFiles.{lookup, AllNamesDiffer, name_at, bytes_at}
 use Rattle.mesh_io.specs.MemPlace.{HasName, put, restart}
 use Rattle.mesh_io.specs.MemState.{MemState, folder_state, name_of_reading, name_of_writing, place_of_reading}
-use Rattle.mesh_io.specs.declared.folder.Failed.{Failed}
-use Rattle.mesh_io.specs.declared.folder.OpenIssue.{OpenIssue}
 use Rattle.mesh_io.specs.declared.mem_file.MemFile.{MemFile}
 use Rattle.mesh_io.proofs.MemNames.{not_there, lookup-name_at, lookup-put_here, lookup-put_other, name_at-put, lookup-add_here, lookup-add_other, name_at-add, name_at-added, name_at-injective}
 

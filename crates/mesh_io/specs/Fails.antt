@@ -1,7 +1,6 @@
 -- Lists of calls that are to fail.
 use Rattle.std.specs.Prelude.{◌==◌, ◌&&◌, ℕ, Bool, true, false, List}
 use Rattle.std.specs.List.{list_any}
-use Rattle.mesh_io.specs.Faults.{counted}
 use Rattle.mesh_io.specs.declared.mem_file.CallKind.{CallKind}
 use Rattle.mesh_io.specs.declared.mem_file.CallKind.TheVariants.{Open, Read, Create, Write}
 use Rattle.mesh_io.specs.declared.mem_file.MemFail.{MemFail}

@@ -6,7 +6,7 @@ pub mod MemFolder
 pub mod MemPlace
 pub mod MemSink
 pub mod MemState
-pub mod New
 pub mod Read
 pub mod Sink
+pub mod Untold
 pub mod Write

@@ -1,5 +1,5 @@
 -- A list of files in memory.
-use Rattle.std.specs.Prelude.{◌≡◌, ℕ, zero, suc, List, [], ◌∷◌, if◌then◌else◌, cond, Option, None, Some}
+use Rattle.std.specs.Prelude.{◌≡◌, ℕ, zero, suc, List, [], ◌∷◌, if◌then◌else◌, Option, None, Some}
 use Rattle.std.specs.Str.{bytes_eq}
 use Rattle.mesh_io.specs.declared.mem_file.MemFile.{MemFile}
 
@@ -13,12 +13,13 @@ abbrev pub AllNamesDiffer : List MemFile → Type 0
 AllNamesDiffer [] = Unit {0}
 AllNamesDiffer (f ∷ fs) = (lookup fs f.name ≡ None) × AllNamesDiffer fs
 
--- the name and the content of the file with that number, counted from 0
+-- the name of the file with that number, counted from 0
 abbrev pub name_at : List MemFile → ℕ → List ℕ
 name_at [] i = []
 name_at (f ∷ fs) zero = f.name
 name_at (f ∷ fs) (suc i) = name_at fs i
 
+-- the content of the file with that number, counted from 0
 abbrev pub bytes_at : List MemFile → ℕ → List ℕ
 bytes_at [] i = []
 bytes_at (f ∷ fs) zero = f.bytes

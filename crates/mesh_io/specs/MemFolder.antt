@@ -1,10 +1,11 @@
--- What the fields of a folder in memory mean.
-use Rattle.std.specs.Prelude.{ℕ, ◌<◌, length, Option, None, Some, option_map, IfSome}
+-- The fields of a folder in memory.
+use Rattle.std.specs.Prelude.{◌<◌, length, option_map, IfSome}
 use Rattle.mesh_io.specs.MemFiles.{AllNamesDiffer}
 use Rattle.mesh_io.specs.MemState.{MemState}
 use Rattle.mesh_io.specs.MemPlace.{place_of}
 use Rattle.mesh_io.specs.declared.mem_folder.MemFolder.TheInside.{Inside}
 
+-- what the fields mean
 abbrev pub mem_state : Inside → MemState
 mem_state m = record {
   files = m.files.items;

@@ -1,9 +1,10 @@
 -- Files by their numbers in the list.
-use Rattle.std.specs.Prelude.{◌≡◌, ◌==◌, ℕ, ◌<◌, zero, suc, if◌then◌else◌, cond, List, [], ◌∷◌, length, Option, None, Some}
+use Rattle.std.specs.Prelude.{◌≡◌, ◌==◌, ℕ, ◌<◌, zero, suc, if◌then◌else◌, List, [], ◌∷◌, length, Option, None, Some}
 use Rattle.mesh_io.specs.MemFiles.{name_at}
 use Rattle.mesh_io.specs.declared.mem_file.MemFile.{MemFile}
 use Rattle.mesh_io.specs.declared.mem_place.Place.{Place}
 
+-- a place as the number of its file and the bytes before it
 abbrev pub place_of : Place → ℕ × ℕ
 place_of p = (p.file, p.at)
 

@@ -1,7 +1,8 @@
--- What an output in memory is.
+-- Outputs in memory.
 use Rattle.std.specs.Prelude.{ℕ, true, List}
 use Rattle.mesh_io.specs.Sink.{SinkState}
 
+-- what an output in memory is
 pub record MemSinkState : Type 0 where
   -- what was written
   pub bytes : List ℕ

@@ -1,11 +1,12 @@
--- What a folder in memory is.
-use Rattle.std.specs.Prelude.{ℕ, Bool, true, List, [], Option, None, Some, is_some}
+-- Folders in memory.
+use Rattle.std.specs.Prelude.{ℕ, true, List, [], Option, None, Some, is_some}
 use Rattle.mesh_io.specs.Fails.{lists_reading}
 use Rattle.mesh_io.specs.Folder.{FolderState}
 use Rattle.mesh_io.specs.MemFiles.{lookup, name_at}
 use Rattle.mesh_io.specs.declared.mem_file.MemFile.{MemFile}
 use Rattle.mesh_io.specs.declared.mem_file.MemFail.{MemFail}
 
+-- what a folder in memory is
 pub record MemState : Type 0 where
   -- the files, no two of one name
   pub files : List MemFile
@@ -24,15 +25,17 @@ pub record MemState : Type 0 where
   pub read_faults : ℕ
   pub write_faults : ℕ
 
--- the name of the file that is read, and of the one that is written
+-- the name of the file that is read
 abbrev pub name_of_reading : List MemFile → Option (ℕ × ℕ) → List ℕ
 name_of_reading files None = []
 name_of_reading files (Some r) = name_at files r.0
 
+-- the name of the file that is written
 abbrev pub name_of_writing : List MemFile → Option ℕ → List ℕ
 name_of_writing files None = []
 name_of_writing files (Some w) = name_at files w
 
+-- the reading place
 abbrev pub place_of_reading : Option (ℕ × ℕ) → ℕ
 place_of_reading None = 0
 place_of_reading (Some r) = r.1

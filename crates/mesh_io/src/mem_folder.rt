@@ -50,7 +50,19 @@ impl MemFolder {
         requires chunk { 0 < chunk }
         requires names { AllNamesDiffer files.items }
         ensures value { result ≡ new_mem_state files.items fails.items chunk }
-        ensures state { ⟦<MemFolder as Folder>⟧.state result ≡ record { told = true; may_fail_reading = lists_reading fails.items; may_fail_writing = true; files = lookup files.items; opened = false; reading = []; place = 0; created = false; writing = []; read_faults = 0; write_faults = 0 } }
+        ensures state { ⟦<MemFolder as Folder>⟧.state result ≡ record {
+          told = true;
+          may_fail_reading = lists_reading fails.items;
+          may_fail_writing = true;
+          files = lookup files.items;
+          opened = false;
+          reading = [];
+          place = 0;
+          created = false;
+          writing = [];
+          read_faults = 0;
+          write_faults = 0;
+        } }
     {
         MemFolder {
             alloc,
@@ -86,8 +98,13 @@ impl Folder for MemFolder {
     fn open(&mut self, name: &str) -> Result<(), OpenIssue>
         ensures folder { Opens (folder_state self.old) (folder_state self.new) name.now result }
         ensures failed { IsErrOf result OpenIssue.Failed ↔ IsTrue (is_listed self.old.fails CallKind.Open (counted self.old.opens)) }
-        ensures rest { self.new ≡ record self.old { opens = counted self.old.opens; reading = self.new.reading; read_faults = self.new.read_faults } }
-        ensures count { self.new.read_faults ≡ (if is_listed self.old.fails CallKind.Open (counted self.old.opens) then counted self.old.read_faults else self.old.read_faults) }
+        ensures count { self.new.read_faults ≡ (if is_listed self.old.fails CallKind.Open (counted self.old.opens)
+            then counted self.old.read_faults else self.old.read_faults) }
+        ensures rest { self.new ≡ record self.old {
+          opens = counted self.old.opens;
+          reading = self.new.reading;
+          read_faults = self.new.read_faults;
+        } }
     {
         self.opens = self.opens.saturating_add(1);
         if is_listed(&self.fails, CallKind::Open, self.opens) {
@@ -109,8 +126,12 @@ impl Folder for MemFolder {
         ensures folder { Reads (folder_state self.old) (folder_state self.new) into.new result }
         ensures failed { IsErr result ↔ IsTrue (is_listed self.old.fails CallKind.Read (counted self.old.reads)) }
         ensures given { IfOk result (λ n. n ≡ min (min (length (left (folder_state self.old))) (length into.new)) self.old.chunk) }
-        ensures rest { self.new ≡ record self.old { reads = counted self.old.reads; reading = self.new.reading; read_faults = self.new.read_faults } }
         ensures count { self.new.read_faults ≡ (if is_ok result then self.old.read_faults else counted self.old.read_faults) }
+        ensures rest { self.new ≡ record self.old {
+          reads = counted self.old.reads;
+          reading = self.new.reading;
+          read_faults = self.new.read_faults;
+        } }
     {
         self.reads = self.reads.saturating_add(1);
         if is_listed(&self.fails, CallKind::Read, self.reads) {
@@ -133,8 +154,14 @@ impl Folder for MemFolder {
     fn create(&mut self, name: &str) -> Result<(), Failed>
         ensures folder { Creates (folder_state self.old) (folder_state self.new) name.now result }
         ensures listed { IsTrue (is_listed self.old.fails CallKind.Create (counted self.old.creates)) → IsErr result }
-        ensures rest { self.new ≡ record self.old { creates = counted self.old.creates; files = self.new.files; reading = self.new.reading; writing = self.new.writing; write_faults = self.new.write_faults } }
         ensures count { self.new.write_faults ≡ (if is_ok result then self.old.write_faults else counted self.old.write_faults) }
+        ensures rest { self.new ≡ record self.old {
+          creates = counted self.old.creates;
+          files = self.new.files;
+          reading = self.new.reading;
+          writing = self.new.writing;
+          write_faults = self.new.write_faults;
+        } }
     {
         self.creates = self.creates.saturating_add(1);
         if is_listed(&self.fails, CallKind::Create, self.creates) {
@@ -170,8 +197,12 @@ impl Folder for MemFolder {
         ensures folder { WritesSome (folder_state self.old) (folder_state self.new) bytes.now result }
         ensures listed { IsTrue (is_listed self.old.fails CallKind.Write (counted self.old.writes)) → IsErr result }
         ensures taken { IfOk result (λ n. n ≡ min (length bytes.now) self.old.chunk) }
-        ensures rest { self.new ≡ record self.old { writes = counted self.old.writes; files = self.new.files; write_faults = self.new.write_faults } }
         ensures count { self.new.write_faults ≡ (if is_ok result then self.old.write_faults else counted self.old.write_faults) }
+        ensures rest { self.new ≡ record self.old {
+          writes = counted self.old.writes;
+          files = self.new.files;
+          write_faults = self.new.write_faults;
+        } }
     {
         self.writes = self.writes.saturating_add(1);
         if is_listed(&self.fails, CallKind::Write, self.writes) {

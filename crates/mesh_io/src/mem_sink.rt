@@ -65,8 +65,12 @@ impl Sink for MemSink {
         ensures sink { Writes (sink_state self.old) (sink_state self.new) bytes.now result }
         ensures listed { IsTrue (list_any (λ nth. nth == counted self.old.writes) self.old.fails) → IsErr result }
         ensures taken { IfOk result (λ n. n ≡ length bytes.now) }
-        ensures rest { self.new ≡ record self.old { writes = counted self.old.writes; bytes = self.new.bytes; faults = self.new.faults } }
         ensures count { self.new.faults ≡ (if is_ok result then self.old.faults else counted self.old.faults) }
+        ensures rest { self.new ≡ record self.old {
+          writes = counted self.old.writes;
+          bytes = self.new.bytes;
+          faults = self.new.faults;
+        } }
     {
         self.writes = self.writes.saturating_add(1);
         if is_among(&self.fails, self.writes) || self.bytes.extend_from_slice(bytes).is_err() {

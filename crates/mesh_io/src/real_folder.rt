@@ -1,5 +1,5 @@
-ghost use Rattle.std.specs.Prelude.{◌≡◌, false, true, is_some, None, []};
-ghost use Rattle.mesh_io.specs.New.{untold_folder};
+ghost use Rattle.std.specs.Prelude.{◌≡◌, false, is_some};
+ghost use Rattle.mesh_io.specs.Untold.{untold_folder};
 
 use crate::folder::{Failed, Folder, OpenIssue};
 use std::fs::File;
@@ -22,7 +22,7 @@ pub struct RealFolder<'a, R: Files> {
 impl<'a, R: Files> RealFolder<'a, R> {
     /// The files that the runtime reaches. Nothing is opened or created, and no fault is counted.
     pub fn new(rt: &'a R) -> RealFolder<'a, R>
-        ensures { ⟦<RealFolder<'a, R> as Folder>⟧.state result ≡ untold_folder }
+        ensures { ⟦<RealFolder<'a, R> as Folder>⟧.state result ≡ untold_folder false false 0 0 }
     {
         RealFolder {
             rt,
@@ -35,7 +35,7 @@ impl<'a, R: Files> RealFolder<'a, R> {
 }
 
 impl<'a, R: Files> Folder for RealFolder<'a, R> {
-    ghost state = { λ s. record { told = false; may_fail_reading = true; may_fail_writing = true; files = λ _. None; opened = is_some s.reading; reading = []; place = 0; created = is_some s.writing; writing = []; read_faults = s.read_faults; write_faults = s.write_faults } };
+    ghost state = { λ s. untold_folder (is_some s.reading) (is_some s.writing) s.read_faults s.write_faults };
 
     /// `Missing` comes only where the system says that the file is not found.
     fn open(&mut self, name: &str) -> Result<(), OpenIssue> {

@@ -1,5 +1,5 @@
-ghost use Rattle.std.specs.Prelude.{◌≡◌, false, true, []};
-ghost use Rattle.mesh_io.specs.New.{untold_sink};
+ghost use Rattle.std.specs.Prelude.{◌≡◌};
+ghost use Rattle.mesh_io.specs.Untold.{untold_sink};
 
 use crate::folder::Failed;
 use crate::sink::Sink;
@@ -16,14 +16,14 @@ pub struct RealSink<'a, R: Print> {
 impl<'a, R: Print> RealSink<'a, R> {
     /// The standard output of the runtime. No fault is counted.
     pub fn new(rt: &'a R) -> RealSink<'a, R>
-        ensures { ⟦<RealSink<'a, R> as Sink>⟧.state result ≡ untold_sink }
+        ensures { ⟦<RealSink<'a, R> as Sink>⟧.state result ≡ untold_sink 0 }
     {
         RealSink { rt, faults: 0 }
     }
 }
 
 impl<'a, R: Print> Sink for RealSink<'a, R> {
-    ghost state = { λ s. record { told = false; may_fail = true; bytes = []; faults = s.faults } };
+    ghost state = { λ s. untold_sink s.faults };
 
     /// A write that takes nothing of a piece that is not empty is a fault.
     fn write(&mut self, bytes: &[u8]) -> Result<usize, Failed> {

@@ -1,4 +1,4 @@
-use Rattle.std.proofs.Common.{◌≡◌, ◌++◌, ◌∙◌, ap, sym}
+use Rattle.std.proofs.Common.{◌++◌, ◌∙◌, ap, sym}
 use Rattle.mesh_io.specs.MemPlace.{put}
 use Rattle.mesh_io.proofs.MemNames.{slice_set-put, bytes_at-get_or, on_ok}
 use Rattle.mesh_io.proofs.mem_place.append.Goals as goal

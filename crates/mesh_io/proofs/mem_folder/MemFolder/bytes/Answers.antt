@@ -1,4 +1,4 @@
-use Rattle.std.proofs.Common.{◌≡◌, ◌<◌, length, ◌∙◌, ap, subst, sym, Some}
+use Rattle.std.proofs.Common.{◌∙◌, ap, subst, sym, Some}
 use Rattle.mesh_io.specs.MemFiles.{lookup}
 use Rattle.mesh_io.specs.MemPlace.{HasName}
 use Rattle.mesh_io.specs.MemState.{MemState}

@@ -1,4 +1,4 @@
-use Rattle.std.proofs.Common.{◌≡◌, ◌<◌, ◌≤◌, ◌+◌, ℕ, length, arith, ◌∙◌, ap, subst, sym, Some, None, IfSome, [], ◌∷◌, length-append}
+use Rattle.std.proofs.Common.{◌≡◌, ◌<◌, ◌+◌, length, arith, ◌∙◌, ap, subst, sym, None, IfSome, [], ◌∷◌, length-append}
 use Rattle.std.specs.Option.{option_map}
 use Rattle.mesh_io.specs.MemFiles.{lookup}
 use Rattle.mesh_io.specs.MemFolder.{mem_state}

@@ -1,11 +1,9 @@
-use Rattle.std.proofs.Common.{◌≡◌, ◌<◌, ◌≤◌, ℕ, List, length, take, drop, min, arith, ◌∙◌, ap, subst, sym, Some, IfSome}
+use Rattle.std.proofs.Common.{◌≡◌, ◌<◌, ℕ, List, length, take, drop, min, arith, ◌∙◌, ap, subst, sym, IfSome}
 use Rattle.std.proofs.lemmas.Grind.{common_steps}
 use Rattle.std.specs.Option.{option_map}
-use Rattle.mesh_io.specs.Folder.{left}
 use Rattle.mesh_io.specs.MemFiles.{bytes_at}
 use Rattle.mesh_io.specs.MemFolder.{mem_state}
 use Rattle.mesh_io.specs.MemPlace.{place_of}
-use Rattle.mesh_io.specs.MemState.{MemState, folder_state}
 use Rattle.mesh_io.proofs.MemFails.{read_fails}
 use Rattle.mesh_io.proofs.MemNames.{bytes_at-get_or}
 use Rattle.mesh_io.proofs.MemSteps.{read_some, left-reading}
