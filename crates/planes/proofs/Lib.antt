@@ -1,0 +1,5 @@
+pub mod VectorLemmas
+pub mod MeanLemmas
+pub mod PlaneLemmas
+pub mod SideLemmas
+pub mod Signs

@@ -1,0 +1,62 @@
+-- Values of points, and planes of the code.
+use Rattle.std.proofs.Common.{◌≡◌, ℕ, zero, suc, ◌+◌, ◌<◌, Bool, true, false, cond, if◌then◌else◌, ℤ, pos, negsuc, ◌*ℤ◌, ◌<ℤ◌, refl, sym, subst, ap, ◌∙◌, arith}
+use Rattle.std.specs.Int.Signed.{lt_z}
+use Rattle.std.specs.Int.{int_signum}
+use lib.IntN.{nat_abs, zero-*ℤ}
+use Rattle.grid.specs.declared.shapes.Point.{Point}
+use Rattle.grid.specs.Boxes.{Axis, along_x, along_y, along_z, Side, IsOn, IsInBox}
+use Rattle.grid.specs.Vectors.{dot}
+use Rattle.grid.specs.Planes.{Plane, value_of, snap_sign, crossing, rounded_mean}
+use Rattle.planes.specs.declared.vector.Vector.{Vector}
+use Rattle.planes.specs.Bounded.{vector_of, plane_with, IsDifference, sq_reach_of}
+use Rattle.planes.specs.Crossings.{HaveOppositeSigns, mean_of}
+use Rattle.planes.proofs.VectorLemmas.{vector_of-IsDifference}
+use Rattle.planes.proofs.MeanLemmas.{rounded_mean-IsUpTo, rounded_mean-same}
+
+pub dot-difference : (m : Plane) (normal d : Vector) (origin p : Point) (snap : ℕ) → plane_with normal origin snap ≡ m → IsDifference p origin d → dot (vector_of normal) (vector_of d) ≡ value_of m p
+unfolding value_of
+dot-difference m normal d origin p snap e h = ap (dot (vector_of normal)) (vector_of-IsDifference p origin d h) ∙ ap (λ k. value_of k p) e
+
+-- what `sign_beyond` answers at the value of a point
+pub sign-snap_sign : (m : Plane) (p : Point) (v r : ℤ) → v ≡ value_of m p → r ≡ sq_reach_of m → (if lt_z r (v *ℤ v) then int_signum v else pos 0) ≡ snap_sign m p
+unfolding snap_sign
+sign-snap_sign m p v r e d = λ i. if lt_z (d i) (e i *ℤ e i) then int_signum (e i) else pos 0
+
+-- ---- values of opposite signs
+pub some_value : (a b : ℤ) → (a *ℤ b) <ℤ pos 0 → 0 < nat_abs a + nat_abs b
+some_value (pos zero) b h = absurd (subst (λ z. z <ℤ pos 0) (zero-*ℤ b) h).lt
+some_value (pos (suc n)) b h = omega arith
+some_value (negsuc n) b h = omega arith
+
+-- ---- crossings
+pub crossing-mean_of : (m : Plane) (u v : Point) → mean_of u v (nat_abs (value_of m u)) (nat_abs (value_of m v)) ≡ crossing m u v
+unfolding crossing mean_of
+crossing-mean_of m u v = refl
+
+module _ (m : Plane) (u v : Point) (opposite : HaveOppositeSigns m u v) where
+  -- a crossing lies in each box that has both ends
+  pub crossing-IsInBox : (n : ℕ) → IsInBox n u → IsInBox n v → IsInBox n (crossing m u v)
+  unfolding crossing
+  crossing-IsInBox n h k =
+      let mean = rounded_mean-IsUpTo (nat_abs (value_of m u)) (nat_abs (value_of m v)) (some_value (value_of m u) (value_of m v) opposite) in
+      record { x_in = mean u.x v.x n h.x_in k.x_in; y_in = mean u.y v.y n h.y_in k.y_in; z_in = mean u.z v.z n h.z_in k.z_in }
+
+  -- and on each of its sides that has both ends
+  pub crossing-IsOn : (l : ℕ) (s : Side) → IsOn l s u → IsOn l s v → IsOn l s (crossing m u v)
+  unfolding crossing
+  crossing-IsOn l s = by_axis s.axis s.is_far
+    where
+      far_at : Bool → ℕ
+      far_at f = cond f l 0
+
+      end_is : (f : Bool) → cond f (pos l) (pos 0) ≡ pos (far_at f)
+      end_is true = refl
+      end_is false = refl
+
+      same : (a b : ℤ) (f : Bool) → a ≡ cond f (pos l) (pos 0) → b ≡ cond f (pos l) (pos 0) → rounded_mean a b (nat_abs (value_of m u)) (nat_abs (value_of m v)) ≡ cond f (pos l) (pos 0)
+      same a b f h k = rounded_mean-same (nat_abs (value_of m u)) (nat_abs (value_of m v)) (some_value (value_of m u) (value_of m v) opposite) a b (far_at f) (h ∙ end_is f) (k ∙ end_is f) ∙ sym (end_is f)
+
+      by_axis : (a : Axis) (f : Bool) → IsOn l (record { axis = a; is_far = f }) u → IsOn l (record { axis = a; is_far = f }) v → IsOn l (record { axis = a; is_far = f }) (crossing m u v)
+      by_axis along_x f h k = same u.x v.x f h k
+      by_axis along_y f h k = same u.y v.y f h k
+      by_axis along_z f h k = same u.z v.z f h k

@@ -1,0 +1,42 @@
+use Rattle.std.proofs.Common.{◌≡◌, ℕ, ◌*◌, ◌^◌, ◌≤◌, List, [], ◌∷◌, ℤ, pos, ◌*ℤ◌, to_z, subst, sym, ap, ◌∙◌, arith, mul-le-mul, lit≤}
+use mir.Syntax.{w128}
+use Rattle.std.proofs.Math.Facts.{to_z_pos}
+use Rattle.int_algebra.specs.Within.{IsWithin}
+use Rattle.int_algebra.proofs.Bounds.{AreWithin, within_cast, wider-IsWithin}
+use Rattle.int_algebra.proofs.Kept.{Code, variable, ◌⊗◌, kept, kept-value, fits_code}
+use Rattle.grid.proofs.Gaps.{square_is}
+use Rattle.planes.proofs.VectorLemmas.{dot-IsWithin}
+use Rattle.planes.proofs.plane.Plane.new.Goals as goal
+
+abbrev product : Code
+product = variable 0 ⊗ kept w128 (variable 1)
+
+abbrev bounds : List ℕ
+bounds = 2 ^ 24 ∷ 2 ^ 76 ∷ []
+
+abbrev values : ℕ → ℤ → List ℤ
+values n z = to_z w128 n ∷ z ∷ []
+
+sq_snap_in : (c : goal.After-squared_length) → c.args.snap * c.args.snap ≤ 2 ^ 24
+sq_snap_in c =
+    let h : c.args.snap * c.args.snap ≤ 4095 * 4095 = mul-le-mul c.requires.snap_high c.requires.snap_high in
+    omega (arith, h)
+
+length_in : (c : goal.After-squared_length) → IsWithin (2 ^ 76) c.squared_length.result
+length_in c =
+    subst (IsWithin (2 ^ 76)) (sym c.squared_length.ensures) (wider-IsWithin (2 ^ 76) (dot-IsWithin c.requires.normal_in c.requires.normal_in) (lit≤ tt))
+
+all_in : (c : goal.After-squared_length) → AreWithin bounds (values (c.args.snap * c.args.snap) c.squared_length.result)
+all_in c = (within_cast w128 (2 ^ 24) (c.args.snap * c.args.snap) (sq_snap_in c) (omega (arith, sq_snap_in c)), (length_in c, tt))
+
+pub overflow_mul-sq_reach : goal.overflow_mul-sq_reach
+overflow_mul-sq_reach c = fits_code bounds (values (c.args.snap * c.args.snap) c.squared_length.result) (all_in c) w128 product tt
+
+pub invariant_of-result : goal.invariant_of-result
+invariant_of-result c =
+    let cast : to_z w128 (c.args.snap * c.args.snap) ≡ pos (c.args.snap * c.args.snap) = to_z_pos w128 (omega (arith, sq_snap_in c)) in
+    let sq : to_z w128 (c.args.snap * c.args.snap) ≡ pos (c.args.snap ^ 2) = cast ∙ ap pos (sym (square_is c.args.snap)) in
+    record {
+      bounded = record { normal_in = c.requires.normal_in; origin_in = c.requires.origin_in; snap_low = c.requires.snap_low; snap_high = c.requires.snap_high };
+      reach_is = kept-value bounds (values (c.args.snap * c.args.snap) c.squared_length.result) (all_in c) (kept w128 product) tt ∙ (λ i. sq i *ℤ c.squared_length.ensures i);
+    }

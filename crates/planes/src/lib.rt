@@ -1,0 +1,13 @@
+//! Planes of triangles and of their sides: on which side of a plane a point lies, which points lie so
+//! close to it that they count as on it, and where a segment crosses it.
+#![tactic(auto)]
+
+mod mean;
+mod plane;
+#[cfg(test)]
+mod tests;
+mod triangle;
+mod vector;
+
+pub use plane::Plane;
+pub use triangle::{plane_of, side_plane};
