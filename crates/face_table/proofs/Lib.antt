@@ -1,0 +1,5 @@
+pub mod LeastLemmas
+pub mod RotationLemmas
+pub mod TableLemmas
+pub mod SharedSides
+pub mod PassLemmas

@@ -1,0 +1,7 @@
+use Rattle.std.proofs.Common.{[], ◌∷◌, ◌++◌, take, flat_map}
+use Rattle.grid.specs.declared.shapes.Face.{Face}
+use Rattle.face_table.specs.Passes.{AreCounted}
+use Rattle.face_table.proofs.pairs.first_repeat_of.Given as goal
+
+abbrev pub invariant-loop-face : goal.invariant-loop-face
+invariant-loop-face l = AreCounted l.table (l.fn.table ++ flat_map (λ (f : Face). f.0 ∷ []) (take l.face-index l.face-items))

@@ -1,0 +1,4 @@
+pub mod Occurrences
+pub mod Keys
+pub mod Pairing
+pub mod Passes
