@@ -1,0 +1,10 @@
+//! The points of a mesh, and its tetrahedra in numbered slots, of which the live ones in rising order
+//! are the mesh's list. A slot is killed and revived in place, so that what changed can be undone.
+#![tactic(auto)]
+
+mod search;
+mod slot;
+mod slots;
+
+pub use slot::Slot;
+pub use slots::Slots;

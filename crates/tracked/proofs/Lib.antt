@@ -1,0 +1,5 @@
+pub mod KeyLemmas
+pub mod PairLemmas
+pub mod KeyFacts
+pub mod Sorted
+pub mod RimLemmas

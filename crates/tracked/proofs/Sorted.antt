@@ -1,0 +1,78 @@
+-- Faces that are sorted and differ are in strictly rising order.
+use Rattle.std.proofs.Common.{◌≡◌, ℕ, ◌+◌, ◌<◌, ◌≤◌, Bool, true, false, length, get_or, refl, ap, sym, ◌∙◌, List, [], ◌∷◌, arith}
+use Rattle.std.specs.declared.cmp.Ordering.{Ordering}
+use Rattle.std.specs.declared.cmp.Ordering.TheVariants.{Less, Equal, Greater}
+use Rattle.std.specs.Cmp.{IsTotalOrder}
+use Rattle.std.specs.Cmp.Lexicographic.{slice_cmp}
+use Rattle.std.specs.List.{IsDistinct, AllByRecursion}
+use Rattle.std.specs.List.Sorted.{IsSorted, IsPermutation, IsStrictlySortedBy}
+use Rattle.std.specs.Ordering.{nat_cmp, is_lt, is_eq, ordering_reverse}
+use Rattle.std.specs.Str.{bytes_eq}
+use Rattle.std.proofs.lemmas.Bool.Decides.{nat_tests}
+use Rattle.std.proofs.lemmas.Cmp.{same_from_slice_cmp, nat_list_cmp_total}
+use Rattle.std.proofs.lemmas.Map.Keys.{IsDistinct-IsPermutation, apart_from_distinct, sorted_from_all_adjacent}
+use Rattle.std.proofs.lemmas.Map.Text.{is_eq-slice_cmp}
+use Rattle.std.proofs.lemmas.Slice.Eq.{bytes_eq-Decides}
+use Rattle.grid.specs.declared.shapes.Face.{Face}
+use Rattle.grid.specs.Meshes.{is_below, Ordered}
+use Rattle.grid.specs.Views.{triples_of}
+use Rattle.tracked.specs.Keys.{same_face}
+
+abbrev pub face_cmp : Face → Face → Ordering
+face_cmp f g = slice_cmp nat_cmp f.0 g.0
+
+face_cmp-total : IsTotalOrder face_cmp
+face_cmp-total = record {
+  antisymm = λ f g. nat_list_cmp_total.antisymm f.0 g.0;
+  trans = λ f g h. nat_list_cmp_total.trans f.0 g.0 h.0;
+  congr = λ f g h. nat_list_cmp_total.congr f.0 g.0 h.0;
+}
+
+is_below-is_lt : (x y : List ℕ) (o : Ordering) → o ≡ slice_cmp nat_cmp x y → is_lt o ≡ is_below x y
+is_below-is_lt = same_from_slice_cmp nat_cmp is_lt is_below refl (λ _ _. refl) (λ _ _. refl) (λ x y xs ys o h. grind (arith, nat_tests))
+
+below_all : (f : Face) (gs : List Face) → AllByRecursion (λ g. face_cmp f g ≡ Less) gs → AllByRecursion (λ t. is_below f.0 t ≡ true) (triples_of gs)
+below_all f [] h = tt
+below_all f (g ∷ gs) h = (sym (is_below-is_lt f.0 g.0 (face_cmp f g) refl) ∙ ap is_lt h.0, below_all f gs h.1)
+
+pub Ordered-sorted : (fs : List Face) → IsStrictlySortedBy face_cmp fs → Ordered (triples_of fs)
+unfolding IsStrictlySortedBy
+Ordered-sorted [] h = tt
+Ordered-sorted (f ∷ fs) h = (below_all f fs h.0, Ordered-sorted fs h.1)
+
+abbrev LessOrEqual : List Face → Type 0
+LessOrEqual fs = (k : ℕ) (d : Face) → 0 ≤ k → k + 1 < length fs → is_lt (face_cmp (get_or fs (k + 1) d) (get_or fs k d)) ≡ false
+
+flip_eq : (x y : List ℕ) → bytes_eq x y ≡ bytes_eq y x
+flip_eq x y = same_bools (bytes_eq x y) (bytes_eq y x) (λ e. (bytes_eq-Decides y x).1 (sym ((bytes_eq-Decides x y).0 e))) (λ e. (bytes_eq-Decides x y).1 (sym ((bytes_eq-Decides y x).0 e)))
+  where
+    same_bools : (p q : Bool) → (p ≡ true → q ≡ true) → (q ≡ true → p ≡ true) → p ≡ q
+    same_bools true q f g = sym (f refl)
+    same_bools false true f g = g refl
+    same_bools false false f g = refl
+
+-- neither above nor equal
+less : (o : Ordering) (r : Ordering) → o ≡ ordering_reverse r → is_lt r ≡ false → is_eq o ≡ false → o ≡ Less
+less Less r e f g = refl
+less Equal r e f g = cc
+less Greater Less e f g = cc
+less Greater Equal e f g = cc
+less Greater Greater e f g = cc
+
+distinct_faces : (fs : List Face) → IsDistinct bytes_eq (triples_of fs) → IsDistinct same_face fs
+unfolding IsDistinct
+distinct_faces [] h = tt
+distinct_faces (f ∷ fs) h = (each f fs h.0, distinct_faces fs h.1)
+  where
+    each : (f : Face) (gs : List Face) → AllByRecursion (λ t. bytes_eq f.0 t ≡ false) (triples_of gs) → AllByRecursion (λ g. same_face f g ≡ false) gs
+    each f [] h = tt
+    each f (g ∷ gs) h = (h.0, each f gs h.1)
+
+pub Ordered-of_sorted : (fs gs : List Face) → IsPermutation fs gs → IsDistinct bytes_eq (triples_of fs) → LessOrEqual gs → Ordered (triples_of gs)
+Ordered-of_sorted fs gs moved distinct sorted =
+    let apart = IsDistinct-IsPermutation same_face (λ f g. flip_eq f.0 g.0) fs gs moved (distinct_faces fs distinct) in
+    let none : Face = record { 0 = [] } in
+    Ordered-sorted gs (sorted_from_all_adjacent face_cmp-total gs none (λ k h.
+    less (face_cmp (get_or gs k none) (get_or gs (k + 1) none)) (face_cmp (get_or gs (k + 1) none) (get_or gs k none))
+    (face_cmp-total.antisymm (get_or gs k none) (get_or gs (k + 1) none)) (sorted k none (omega arith) h)
+    (is_eq-slice_cmp (get_or gs k none).0 (get_or gs (k + 1) none).0 ∙ apart_from_distinct same_face gs k (k + 1) none apart (omega arith) h)))
