@@ -6,3 +6,4 @@ pub mod Triangles
 pub mod Limits
 pub mod Truths
 pub mod Scales
+pub mod Beyond

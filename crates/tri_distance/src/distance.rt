@@ -3,6 +3,7 @@ ghost use Rattle.int_algebra.specs.Within.{IsWithin};
 ghost use Rattle.grid.specs.Boxes.{IsInBox, AreInBox, IsTriInBox};
 ghost use Rattle.grid.specs.Near.{Near, IsNearCorners};
 
+use crate::bounding_box::is_outside;
 use crate::triangle::near_vectors;
 use crate::vector::{gap, normal, scale_of};
 use grid::{Point, Tri};
@@ -14,7 +15,7 @@ fn reach_of(e: u32, k: u32) -> i128
     ensures value { result ≡ pos (e * 2 ^ k * (e * 2 ^ k)) }
     ensures within { IsWithin (2 ^ 36) result }
 {
-    let far = e as i128 * scale_of(k);
+    let far = e as i128 * scale_of(k) as i128;
     far * far
 }
 
@@ -25,6 +26,9 @@ fn near_corners(p: Point, k: u32, a: Point, b: Point, c: Point, e: u32) -> bool
     requires e_in { e ≤ 4095 }
     ensures { IsTrue result ↔ IsNearCorners p k e a b c }
 {
+    if is_outside(p, k, a, b, c, e) {
+        return false;
+    }
     let x = gap(p, k, a);
     let y = gap(p, k, b);
     let z = gap(p, k, c);

@@ -70,7 +70,7 @@ pub fn normal(a: Point, b: Point, c: Point) -> Vector
     cross(side(a, b), side(a, c))
 }
 
-pub fn scale_of(k: u32) -> i128
+pub fn scale_of(k: u32) -> i64
     requires { k ≤ 6 }
     ensures { result ≡ pos (2 ^ k) }
 {
@@ -85,7 +85,7 @@ pub fn gap(p: Point, k: u32, a: Point) -> Vector
     ensures value { vector_of result ≡ gap_of p (pos (2 ^ k)) a }
     ensures within { AllWithin (2 ^ 24) (vector_of result) }
 {
-    let scale = scale_of(k);
+    let scale = scale_of(k) as i128;
     Vector {
         x: p.x as i128 - scale * a.x as i128,
         y: p.y as i128 - scale * a.y as i128,

@@ -1,4 +1,4 @@
-use Rattle.std.proofs.Common.{◌≡◌, ℕ, ◌*◌, ◌^◌, ◌≤◌, [], ◌∷◌, ℤ, pos, ◌*ℤ◌, ap₂, subst, sym, ◌∙◌, arith, to_z}
+use Rattle.std.proofs.Common.{◌≡◌, ℕ, ◌*◌, ◌^◌, ◌≤◌, [], ◌∷◌, ℤ, pos, ◌*ℤ◌, ap₂, subst, sym, ◌∙◌, arith, to_z, w64}
 use Rattle.std.proofs.lemmas.Int.{ints}
 use mir.Syntax.{w128}
 use Rattle.int_algebra.specs.Within.{IsWithin}
@@ -9,7 +9,7 @@ use Rattle.tri_distance.proofs.Scales.{reach-IsWithin}
 use Rattle.tri_distance.proofs.distance.reach_of.Goals as goal
 
 abbrev far : Code
-far = variable 0 ⊗ kept w128 (variable 1)
+far = variable 0 ⊗ kept w128 (kept w64 (variable 1))
 
 abbrev square : Code
 square = kept w128 far ⊗ kept w128 far
@@ -26,6 +26,10 @@ module _ (e k : ℕ) (s : ℤ) (l : e ≤ 4095) (h : k ≤ 6) (f : s ≡ pos (2 
 
 pub overflow_cast-far : goal.overflow_cast-far
 overflow_cast-far c = fits_within w128 (record { within = c.requires.e_in }) (omega arith)
+
+pub overflow_cast-far-2 : goal.overflow_cast-far-2
+overflow_cast-far-2 c =
+    fits_code (4095 ∷ 2 ^ 6 ∷ []) (to_z w128 c.args.e ∷ c.scale_of.result ∷ []) (all_in c.args.e c.args.k c.scale_of.result c.requires.e_in c.requires.k_in c.scale_of.ensures) w128 (kept w64 (variable 1)) tt
 
 pub overflow_mul-far : goal.overflow_mul-far
 overflow_mul-far c =

@@ -1,4 +1,4 @@
-use Rattle.std.proofs.Common.{◌≡◌, ℕ, ◌+◌, ◌^◌, ◌≤◌, List, [], ◌∷◌, ℤ, pos, SFits, T, ap, subst, sym, ◌∙◌, w32}
+use Rattle.std.proofs.Common.{◌≡◌, ℕ, ◌+◌, ◌^◌, ◌≤◌, List, [], ◌∷◌, ℤ, pos, SFits, T, ap, subst, sym, ◌∙◌, w32, w64}
 use mir.Syntax.{w128}
 use Rattle.int_algebra.specs.Within.{IsWithin}
 use Rattle.int_algebra.proofs.Bounds.{AreWithin}
@@ -16,8 +16,11 @@ bounds = 2 ^ 24 ∷ 2 ^ 24 ∷ 2 ^ 24 ∷ 2 ^ 18 ∷ 2 ^ 18 ∷ 2 ^ 18 ∷ 2 ^ 6
 abbrev number : ℕ → Code
 number i = kept w32 (variable i)
 
+abbrev scale : Code
+scale = kept w128 (kept w64 (variable 6))
+
 abbrev product : ℕ → Code
-product i = kept w128 (variable 6) ⊗ kept w128 (number (3 + i))
+product i = scale ⊗ kept w128 (number (3 + i))
 
 abbrev part : ℕ → Code
 part i = kept w128 (number i) ⊖ kept w128 (product i)
@@ -39,6 +42,9 @@ module _ (p a : Point) (k : ℕ) (t : ℤ) (f : IsInBox (2 ^ (18 + k)) p) (g : I
       let value : ◌≡◌ {A = Vector} record { x = code_value (p.x ∷ p.y ∷ p.z ∷ a.x ∷ a.y ∷ a.z ∷ t ∷ []) (kept w128 (part 0)); y = code_value (p.x ∷ p.y ∷ p.z ∷ a.x ∷ a.y ∷ a.z ∷ t ∷ []) (kept w128 (part 1)); z = code_value (p.x ∷ p.y ∷ p.z ∷ a.x ∷ a.y ∷ a.z ∷ t ∷ []) (kept w128 (part 2)) } (gap_of p t a) =
       λ i. record { x = at (kept w128 (part 0)) tt i; y = at (kept w128 (part 1)) tt i; z = at (kept w128 (part 2)) tt i } in
       value ∙ ap (λ (s : ℤ). gap_of p s a) e
+
+pub overflow_cast-scale : goal.overflow_cast-scale
+overflow_cast-scale c = fits c.args.p c.args.a c.args.k c.scale_of-scale.result c.requires.p_in c.requires.a_in c.requires.k_in c.scale_of-scale.ensures (kept w64 (variable 6)) tt
 
 pub overflow_cast-result : goal.overflow_cast-result
 overflow_cast-result c = fits c.args.p c.args.a c.args.k c.scale_of-scale.result c.requires.p_in c.requires.a_in c.requires.k_in c.scale_of-scale.ensures (number 0) tt
