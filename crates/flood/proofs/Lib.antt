@@ -1,0 +1,7 @@
+mod ChainLemmas
+mod ConditionLemmas
+mod FacetLemmas
+mod ReachLemmas
+mod RegionLemmas
+mod Turns
+pub mod Walks

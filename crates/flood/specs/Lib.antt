@@ -1,0 +1,3 @@
+pub mod HalfFaces
+pub mod Chains
+pub mod Floods
