@@ -1,2 +1,5 @@
 pub mod Parts
 pub mod Found
+pub mod Means
+pub mod InEnvelope
+pub mod One

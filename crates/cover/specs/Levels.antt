@@ -4,6 +4,7 @@ use Rattle.grid.specs.declared.shapes.Tri.{Tri}
 use Rattle.mesh_types.specs.declared.cert.Cert.{Cert}
 use Rattle.mesh_types.specs.Certificates.{IsLeastCertificate}
 
+-- there is a certificate
 abbrev pub HasCertificateAt : List Tri → (e levels k : ℕ) → Tri → Type 0
 HasCertificateAt triangles e levels k f = (c : Cert) × IsLeastCertificate triangles e levels k f c
 
