@@ -1,0 +1,6 @@
+mod FewWords
+mod Saying
+mod Writing
+mod Soups
+mod Making
+mod Working

@@ -1,0 +1,10 @@
+pub mod Words
+pub mod JobView
+pub mod Report
+pub mod Summary
+pub mod Printed
+pub mod Input
+pub mod Issues
+pub mod Written
+pub mod Made
+pub mod Run

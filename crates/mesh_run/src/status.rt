@@ -1,0 +1,19 @@
+// The statuses that a run ends with.
+
+/// Done.
+pub const DONE: u8 = 0;
+
+/// The words are refused.
+pub const WORDS: u8 = 2;
+
+/// The input is refused.
+pub const INPUT: u8 = 3;
+
+/// A read failed, or the input is not there.
+pub const READ: u8 = 4;
+
+/// A write failed.
+pub const WRITE: u8 = 5;
+
+/// Memory ran out.
+pub const MEMORY: u8 = 6;
