@@ -1,5 +1,5 @@
 -- Slots that are killed and revived, and corners that no slot has.
-use Rattle.std.proofs.Common.{◌≡◌, ◌≢◌, ℕ, suc, ◌-◌, ◌<◌, ◌≤◌, ◌^◌, Bool, true, false, ◌||◌, nat_eq, List, [], ◌∷◌, length, get_or, set, All, refl, sym, ◌∙◌, ap, arith}
+use Rattle.std.proofs.Common.{◌≡◌, ℕ, ◌-◌, ◌<◌, Bool, true, false, ◌||◌, nat_eq, List, [], ◌∷◌, length, get_or, set, All, refl, sym, ◌∙◌, ap, arith}
 use Rattle.std.specs.List.{AllByRecursion}
 use Rattle.std.proofs.lemmas.Bool.Decides.{nat_tests}
 use Rattle.std.proofs.lemmas.List.{get_or-set_same, set-set, set-get_or, length-set}
@@ -7,7 +7,7 @@ use Rattle.std.proofs.lemmas.List.Elements.{All-from_recursion, recursion_from_A
 use Rattle.grid.specs.declared.shapes.Point.{Point}
 use Rattle.grid.specs.Simplices.{has, IsTet}
 use Rattle.tet_slots.specs.declared.slot.Slot.{Slot}
-use Rattle.tet_slots.specs.Slots.{SlotLists, IsSound, IsUnused, slot_at, with_live, no_slot}
+use Rattle.tet_slots.specs.Slots.{IsSound, IsUnused, slot_at, with_live, no_slot}
 
 none_first : (u n : ℕ) (b : Bool) → u < n → b ≡ false → (nat_eq u n || b) ≡ false
 none_first u n b h e = grind (arith, nat_tests)

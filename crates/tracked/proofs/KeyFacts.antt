@@ -1,5 +1,5 @@
 -- What holds of all keys, and that no key stands twice.
-use Rattle.std.proofs.Common.{◌≡◌, ℕ, ◌<◌, ◌^◌, Bool, true, false, ◌||◌, cond, Option, None, Some, unwrap_or, length, get_or, refl, ap, subst, sym, ◌∙◌, List, [], ◌∷◌, ◌++◌, All, arith}
+use Rattle.std.proofs.Common.{◌≡◌, ℕ, ◌<◌, ◌^◌, Bool, true, false, ◌||◌, Option, None, Some, length, get_or, refl, ap, subst, sym, ◌∙◌, List, [], ◌∷◌, ◌++◌, All, arith}
 use Rattle.std.specs.Cmp.{IsEquivalence}
 use Rattle.std.specs.List.{AllByRecursion, IsDistinct, list_any}
 use Rattle.std.specs.Map.{keys_of}

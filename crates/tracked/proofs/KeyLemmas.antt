@@ -1,5 +1,5 @@
 -- Keys and their states.
-use Rattle.std.proofs.Common.{◌≡◌, ℕ, Bool, true, false, cond, Option, None, Some, refl, ap, List, [], ◌∷◌, ◌++◌}
+use Rattle.std.proofs.Common.{◌≡◌, Bool, true, false, cond, Option, None, Some, refl, ap, [], ◌∷◌, ◌++◌}
 use Rattle.grid.specs.declared.shapes.Face.{Face}
 use Rattle.tracked.specs.Keys.{Keys, state_of, put, same_face}
 

@@ -1,20 +1,20 @@
 -- At most 2 ^ 32 - 1 rising triples have the same two corners: the third corner tells them apart.
-use Rattle.std.proofs.Common.{◌≡◌, ◌≢◌, ◌⊎◌, ℕ, suc, ◌+◌, ◌-◌, ◌<◌, ◌≤◌, ◌^◌, Bool, true, false, ◌&&◌, ◌||◌, nat_eq, eqb, cond, List, [], ◌∷◌, length, map, filter, count_by, get_or, sum, All, refl, sym, subst, ◌∙◌, ap, arith, inl, inr, IsTrue}
+use Rattle.std.proofs.Common.{◌≡◌, ◌≢◌, ◌⊎◌, ℕ, ◌+◌, ◌-◌, ◌<◌, ◌^◌, Bool, true, false, ◌&&◌, eqb, List, [], ◌∷◌, map, filter, refl, sym, subst, ◌∙◌, ap, arith, inl, inr}
 use Rattle.std.specs.List.{IsDistinct, AllByRecursion, list_any}
 use Rattle.std.specs.Map.{keys_of}
 use Rattle.std.specs.Str.{bytes_eq}
-use Rattle.std.proofs.lemmas.Bool.{and_parts, cases_Bool, cases_eq, eqb-true, ne_eqb, lt-ltb, false_from_ne_true, true≢false, or_cases}
+use Rattle.std.proofs.lemmas.Bool.{and_parts, cases_Bool, eqb-true, ne_eqb, lt-ltb, false_from_ne_true, true≢false, or_cases}
 use Rattle.std.proofs.lemmas.Bool.Decides.{nat_tests}
 use Rattle.std.proofs.lemmas.List.{length-map}
 use Rattle.std.proofs.lemmas.List.Elements.{recursion_from_All}
 use Rattle.std.proofs.lemmas.List.Sums.{length-filter}
-use Rattle.std.proofs.lemmas.Map.Keys.{IsDistinct-head, IsDistinct-tail, IsDistinct-cons}
+use Rattle.std.proofs.lemmas.Map.Keys.{IsDistinct-cons}
 use Rattle.std.proofs.lemmas.Map.Steps.{length-le_from_distinct_below}
 use Rattle.std.proofs.lemmas.Slice.Eq.{bytes_eq-Decides}
 use Rattle.grid.specs.declared.shapes.Face.{Face}
 use Rattle.grid.specs.Meshes.{IsTriple}
 use Rattle.grid.specs.Rims.{triples_at}
-use Rattle.grid.specs.Simplices.{has, insert_number, rising, Rises}
+use Rattle.grid.specs.Simplices.{has, insert_number, rising}
 use Rattle.grid.specs.Views.{triples_of}
 use Rattle.grid.proofs.Rotations.{has3-cases}
 use Rattle.tracked.specs.Keys.{Keys, same_face, faces_in, AreTriples}

@@ -1,5 +1,5 @@
 -- Keys in the order made, each in or out.
-use Rattle.std.specs.Prelude.{ℕ, ◌^◌, Bool, true, false, cond, Option, None, Some, List, [], ◌∷◌, unwrap_or, All}
+use Rattle.std.specs.Prelude.{◌^◌, Bool, true, false, cond, Option, None, Some, List, [], ◌∷◌, unwrap_or, All}
 use Rattle.std.specs.Str.{bytes_eq}
 use Rattle.std.specs.Map.{lookup}
 use Rattle.indexmap.specs.IndexMap.{insert_entry}

@@ -1,5 +1,3 @@
-use Rattle.std.proofs.Common.{ap}
-use Rattle.grid.specs.Views.{triples_of}
 use Rattle.tracked.proofs.Sorted.{Ordered-of_sorted}
 use Rattle.tracked.proofs.table.Tracked.list.Goals as goal
 

@@ -1,0 +1,10 @@
+pub mod UndoLemmas
+pub mod SoundLemmas
+pub mod Steps
+pub mod SlotSplits
+pub mod KeySets
+pub mod FacePieces
+pub mod PieceLemmas
+pub mod FirstMesh
+pub mod MeshLemmas
+pub mod FaceLoop

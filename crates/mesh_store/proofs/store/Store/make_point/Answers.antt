@@ -1,0 +1,25 @@
+use Rattle.std.proofs.Common.{ap, [], ◌∷◌, refl}
+use Rattle.undo_record.specs.declared.mark.Mark.TheVariants.{PointMade}
+use Rattle.mesh_store.specs.Changes.{point_made}
+use Rattle.mesh_store.specs.Parts.{parts_of}
+use Rattle.mesh_store.specs.Store.{parts_now}
+use Rattle.mesh_store.proofs.SoundLemmas.{sound-point}
+use Rattle.mesh_store.proofs.Steps.{IsMarked, lead-one, back-point, can-point, marked-keeps, marked-view}
+use Rattle.mesh_store.proofs.store.Store.make_point.Goals as goal
+use Rattle.mesh_store.proofs.store.Store.make_point.Goals.{In-Ok}
+
+step : (c : In-Ok) → IsMarked c.self.inside (record c.self.inside { slots = c.add_point.new.self; undo = c.push.new.self }) (PointMade ∷ []) (point_made c.args.p (parts_now c.self.inside))
+step c = record {
+  parts_are = ap (λ z. parts_of z c.self.inside.tracked) c.in-Ok.ensures.ok;
+  back = lead-one _ _ _ (back-point c.args.p (parts_now c.self.inside)) (can-point c.args.p (parts_now c.self.inside) c.in-Ok.ensures.unused);
+  sound = sound-point c.self.inside.side c.args.p (parts_now c.self.inside) (rw (← c.self.view_is) at c.requires.room) (rw (← c.self.view_is) at c.requires.in_box) c.self.invariant.sound;
+  undo_is = c.in_ok-push.ensures.ok;
+  opened_is = refl;
+  side_is = refl;
+}
+
+pub invariant_of-self-in-Ok : goal.invariant_of-self-in-Ok
+invariant_of-self-in-Ok c = marked-keeps c.self.inside _ (PointMade ∷ []) (point_made c.args.p (parts_now c.self.inside)) (step c) c.self.invariant (rw (← c.self.view_is) at c.requires.open)
+
+pub returns-clause-ok : goal.returns-clause-ok
+returns-clause-ok c = rw (← c.self.view_is) (marked-view c.self.inside _ (PointMade ∷ []) (point_made c.args.p (parts_now c.self.inside)) (step c))

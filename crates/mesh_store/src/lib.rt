@@ -1,0 +1,12 @@
+//! A mesh with transactions: every change is marked, and is undone from its mark. After a refused
+//! change the mesh is the one at the begin of the transaction.
+#![tactic(auto)]
+
+mod filling;
+mod issue;
+mod listing;
+mod store;
+mod undoing;
+
+pub use issue::StoreIssue;
+pub use store::Store;
