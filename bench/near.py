@@ -9,33 +9,20 @@ The program stands in bench/near/main.rt.txt, since code of the repository stand
 is built in a folder of its own over copies of the crates that `near` stands on.
 """
 
-import shutil
 import subprocess
 import sys
 import tempfile
 from pathlib import Path
 
+from built import build
 from measured import TOP, best
 
 CALLS = 10_000_000
-CRATES = {"int_algebra": "", "grid": "int_algebra", "tri_distance": "grid int_algebra"}
 
 
 def exact_program(folder):
-    """Builds the program over copies of the crates."""
-    for name in CRATES:
-        shutil.copytree(TOP / "crates" / name, folder / "crates" / name, ignore=shutil.ignore_patterns("out", "must-fail"))
-    lines = [f"{name}: {below}" for name, below in CRATES.items()] + ["near_bench: tri_distance grid"]
-    (folder / "crates.txt").write_text("\n".join(lines) + "\n")
-    source = folder / "crates" / "near_bench" / "src"
-    source.mkdir(parents=True)
-    shutil.copy(TOP / "bench" / "near" / "main.rt.txt", source / "main.rt")
-    subprocess.run(["git", "init", "-q", folder], check=True)
-    built = subprocess.run(["rt", "run"], cwd=source.parent, capture_output=True, text=True, check=False)
-    program = source.parent / "out" / "near_bench"
-    if not program.exists():
-        sys.exit(built.stdout + built.stderr)
-    return program
+    source = (TOP / "bench" / "near" / "main.rt.txt").read_text()
+    return build(folder, "near_bench", ["tri_distance", "grid"], {"src/main.rt": source})
 
 
 def float_program(folder):
