@@ -13,8 +13,7 @@ from pathlib import Path
 from built import build
 from measured import TOP, best
 
-SIZES = {4: 2, 8: 3, 16: 4}  # cells and the power of two that they are
-TURNS = 200
+SIZES = {4: (2, 40000), 8: (3, 8000), 16: (4, 1000)}  # cells: the power of two that they are, and the turns
 CRATES = ["mesh_store", "background", "mesh_types", "grid"]
 
 
@@ -42,10 +41,10 @@ def seconds(folder, cells, power, turns):
 def main():
     print(f"{'tets':>6} {'microseconds a turn':>20}")
     with tempfile.TemporaryDirectory() as name:
-        for cells, power in SIZES.items():
-            whole = seconds(Path(name), cells, power, TURNS)
+        for cells, (power, turns) in SIZES.items():
+            whole = seconds(Path(name), cells, power, turns)
             nothing = seconds(Path(name), cells, power, 0)
-            print(f"{6 * cells**3:6} {(whole - nothing) / TURNS * 1e6:20.1f}")
+            print(f"{6 * cells**3:6} {(whole - nothing) / turns * 1e6:20.1f}")
 
 
 if __name__ == "__main__":
