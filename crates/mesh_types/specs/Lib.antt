@@ -8,3 +8,13 @@ pub mod Tracking
 pub mod Certificates
 pub mod Hull
 pub mod Outside
+pub mod CuttingRule
+pub mod Phases
+pub mod Insertion
+pub mod Turns
+pub mod Tries
+pub mod Results
+pub mod Verdicts
+pub mod Stars
+pub mod InteriorFaces
+pub mod Journals
