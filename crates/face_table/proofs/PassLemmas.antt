@@ -1,19 +1,19 @@
 -- The first repeat and the first loose face of a list, from those of its parts in turn.
-use Rattle.std.proofs.Common.{◌≡◌, ℕ, ◌+◌, ◌<◌, ◌≤◌, true, cond, List, [], ◌∷◌, ◌++◌, length, take, drop, get_or, flat_map, All, refl, ap, sym, ◌∙◌, subst, inl, inr, arith, append_assoc, length-append}
+use Rattle.std.proofs.Common.{◌≡◌, ℕ, ◌+◌, ◌<◌, ◌≤◌, ◌↔◌, true, cond, List, [], ◌∷◌, ◌++◌, length, take, drop, get_or, flat_map, All, refl, ap, sym, ◌∙◌, subst, inl, inr, arith, append_assoc, length-append}
 use Rattle.std.proofs.lemmas.Bool.{cases_Bool, cases_lt}
 use Rattle.std.proofs.lemmas.List.{append-nil, get_or_append_left, get_or-append_right, take-append-le, take_more, take-append-drop}
 use Rattle.std.proofs.lemmas.List.Concat.{flat_map-append}
 use Rattle.std.proofs.Math.Seq.{take-append-add}
 use Rattle.std.proofs.lemmas.List.Elements.{All-from_recursion, recursion_from_All, All-nil, All-cons, All-head, All-tail}
 use Rattle.grid.specs.declared.shapes.Face.{Face}
-use Rattle.grid.specs.declared.shapes.Point.{Point}
 use Rattle.grid.specs.Views.{triples_of}
-use Rattle.grid.specs.Boxes.{IsOnOneSide}
 use Rattle.grid.specs.Simplices.{faces, is_rotation, reversed}
 use Rattle.face_table.specs.Occurrences.{occurrences, HaveSameFaces}
-use Rattle.face_table.specs.Pairing.{face_at, NoneTwice, IsFirstRepeat, IsLoose, LieOnSides, IsFirstLoose}
+use Rattle.face_table.specs.Pairing.{face_at, NoneTwice, IsFirstRepeat, IsLoose, LooseHave, IsFirstLooseWithout, IsPairedBy}
+use Rattle.face_table.specs.declared.pairs.Paired.{Paired}
+use Rattle.face_table.specs.declared.pairs.Paired.TheVariants.{Good, Twice, Loose}
 use Rattle.face_table.specs.Passes.{IsRepeatAfter, AreCounted}
-use Rattle.face_table.proofs.RotationLemmas.{occurrences-rotation, occurrences-append, occurrences-push, reversed-both, has-rotation}
+use Rattle.face_table.proofs.RotationLemmas.{occurrences-rotation, occurrences-append, occurrences-push, reversed-both}
 use Rattle.grid.proofs.Members.{count_by-cons_no}
 
 -- ---- places of a part of a list
@@ -101,61 +101,76 @@ module _ {X : Type 0} (g : X → List (List ℕ)) (xs : List X) (i : ℕ) (d : X
       (repeat-in base table (flat_map g (take i xs)) (g (get_or xs i d)) (flat_map g (drop (i + 1) xs)) f h.same r)
 
 -- ---- loose faces
-module _ (points : List Point) (l : ℕ) (faces : List (List ℕ)) where
-  pub LieOnSides-append : (some more : List (List ℕ)) → LieOnSides points l faces some → LieOnSides points l faces more → LieOnSides points l faces (some ++ more)
-  LieOnSides-append some more h k f there loose = elim (cases_lt 0 (occurrences f some)) [
+module _ (Has : List ℕ → Type 0) (faces : List (List ℕ)) where
+  pub LooseHave-append : (some more : List (List ℕ)) → LooseHave Has faces some → LooseHave Has faces more → LooseHave Has faces (some ++ more)
+  LooseHave-append some more h k f there loose = elim (cases_lt 0 (occurrences f some)) [
     | inl a ↦ h f a loose
     | inr a ↦ k f (omega (arith, a, there, occurrences-append f some more)) loose
   ]
 
-  pub loose-in : (before part after : List (List ℕ)) (f : List ℕ) → LieOnSides points l faces before → IsFirstLoose points l faces part f → IsFirstLoose points l faces (before ++ (part ++ after)) f
+  pub loose-in : (before part after : List (List ℕ)) (f : List ℕ) → LooseHave Has faces before → IsFirstLooseWithout Has faces part f → IsFirstLooseWithout Has faces (before ++ (part ++ after)) f
   loose-in before part after f h r = record {
     place = length before + r.place;
     within = within-part before part after r.place r.within;
     is = face_at-part before part after r.place r.within ∙ r.is;
     loose = r.loose;
     apart = r.apart;
-    first = subst (LieOnSides points l faces) (sym (take-part before part after r.place (omega (arith, r.within)))) (LieOnSides-append before (take r.place part) h r.first);
+    first = subst (LooseHave Has faces) (sym (take-part before part after r.place (omega (arith, r.within)))) (LooseHave-append before (take r.place part) h r.first);
   }
 
-  pub sides-none : LieOnSides points l faces []
-  sides-none f there loose = absurd (omega (arith, there))
+  pub loose-none : LooseHave Has faces []
+  loose-none f there loose = absurd (omega (arith, there))
 
   module _ {X : Type 0} (g : X → List (List ℕ)) (xs : List X) (i : ℕ) (d : X) (k : i < length xs) where
-    pub sides-more : LieOnSides points l faces (flat_map g (take i xs)) → LieOnSides points l faces (g (get_or xs i d)) → LieOnSides points l faces (flat_map g (take (i + 1) xs))
-    sides-more h more = subst (LieOnSides points l faces) (sym (parts-more g xs i d k)) (LieOnSides-append (flat_map g (take i xs)) (g (get_or xs i d)) h more)
+    pub loose-more : LooseHave Has faces (flat_map g (take i xs)) → LooseHave Has faces (g (get_or xs i d)) → LooseHave Has faces (flat_map g (take (i + 1) xs))
+    loose-more h more = subst (LooseHave Has faces) (sym (parts-more g xs i d k)) (LooseHave-append (flat_map g (take i xs)) (g (get_or xs i d)) h more)
 
-    pub loose-at : (f : List ℕ) → LieOnSides points l faces (flat_map g (take i xs)) → IsFirstLoose points l faces (g (get_or xs i d)) f → IsFirstLoose points l faces (flat_map g xs) f
+    pub loose-at : (f : List ℕ) → LooseHave Has faces (flat_map g (take i xs)) → IsFirstLooseWithout Has faces (g (get_or xs i d)) f → IsFirstLooseWithout Has faces (flat_map g xs) f
     loose-at f h r =
-        subst (λ fs. IsFirstLoose points l faces fs f) (sym (parts-all g xs i d k))
+        subst (λ fs. IsFirstLooseWithout Has faces fs f) (sym (parts-all g xs i d k))
         (loose-in (flat_map g (take i xs)) (g (get_or xs i d)) (flat_map g (drop (i + 1) xs)) f h r)
 
-  -- one face
-  pub sides-one : (f : List ℕ) → (IsLoose faces f → IsOnOneSide points l f) → LieOnSides points l faces (f ∷ [])
-  sides-one f h g there loose =
+  -- one face, where its rotations have the property too
+  pub loose-one : (f : List ℕ) → ((g : List ℕ) → is_rotation g f ≡ true → Has f → Has g) → (IsLoose faces f → Has f) → LooseHave Has faces (f ∷ [])
+  loose-one f rotates h g there loose =
       let rotated : is_rotation g f ≡ true = elim (cases_Bool (is_rotation g f)) [
         | inl e ↦ e
         | inr e ↦ absurd (omega (arith, there, count_by-cons_no (λ x. is_rotation g x) f [] e))
       ] in
-      let s = h (sym (occurrences-rotation (reversed g) (reversed f) faces (reversed-both g f rotated)) ∙ loose) in
-      record { side = s.side; corners = λ c w. s.corners c (has-rotation g f c rotated w) }
+      rotates g rotated (h (sym (occurrences-rotation (reversed g) (reversed f) faces (reversed-both g f rotated)) ∙ loose))
 
-  pub loose-one : (f : List ℕ) → IsLoose faces f → (IsOnOneSide points l f → ⊥) → IsFirstLoose points l faces (f ∷ []) f
-  loose-one f loose apart = record { place = 0; within = omega arith; is = refl; loose = loose; apart = apart; first = sides-none }
+  pub loose-without : (f : List ℕ) → IsLoose faces f → (Has f → ⊥) → IsFirstLooseWithout Has faces (f ∷ []) f
+  loose-without f loose without = record { place = 0; within = omega arith; is = refl; loose = loose; apart = without; first = loose-none }
 
 -- the counts of a table are those of the faces that it counts
-pub LieOnSides-same : (points : List Point) (l : ℕ) (table faces some : List (List ℕ)) → HaveSameFaces table faces → LieOnSides points l table some → LieOnSides points l faces some
-LieOnSides-same points l table faces some h k f there loose = k f there (h (reversed f) ∙ loose)
+pub LooseHave-same : (Has : List ℕ → Type 0) (table faces some : List (List ℕ)) → HaveSameFaces table faces → LooseHave Has table some → LooseHave Has faces some
+LooseHave-same Has table faces some h k f there loose = k f there (h (reversed f) ∙ loose)
 
-pub IsFirstLoose-same : (points : List Point) (l : ℕ) (table faces some : List (List ℕ)) (f : List ℕ) → HaveSameFaces table faces → IsFirstLoose points l table some f → IsFirstLoose points l faces some f
-IsFirstLoose-same points l table faces some f h r = record {
+pub IsFirstLooseWithout-same : (Has : List ℕ → Type 0) (table faces some : List (List ℕ)) (f : List ℕ) → HaveSameFaces table faces → IsFirstLooseWithout Has table some f → IsFirstLooseWithout Has faces some f
+IsFirstLooseWithout-same Has table faces some f h r = record {
   place = r.place;
   within = r.within;
   is = r.is;
   loose = sym (h (reversed f)) ∙ r.loose;
   apart = r.apart;
-  first = LieOnSides-same points l table faces (take r.place some) h r.first;
+  first = LooseHave-same Has table faces (take r.place some) h r.first;
 }
+
+-- the same with a property that the same faces have
+pub IsPairedBy-same : (Has Have : List ℕ → Type 0) (faces : List (List ℕ)) (paired : Paired) → ((f : List ℕ) → Has f ↔ Have f) → IsPairedBy Has faces paired → IsPairedBy Have faces paired
+IsPairedBy-same Has Have faces Good same h = (h.0, λ f there loose. (same f).0 (h.1 f there loose))
+IsPairedBy-same Has Have faces (Twice f) same h = h
+IsPairedBy-same Has Have faces (Loose f) same h = (
+  h.0,
+  record {
+    place = h.1.place;
+    within = h.1.within;
+    is = h.1.is;
+    loose = h.1.loose;
+    apart = λ have. h.1.apart ((same f.0).1 have);
+    first = λ g there loose. (same g).0 (h.1.first g there loose);
+  },
+)
 
 pub NoneTwice-same : (table faces : List (List ℕ)) → AreCounted table faces → NoneTwice faces
 NoneTwice-same table faces h f = subst (λ n. n ≤ 1) (h.same f) (h.once f)

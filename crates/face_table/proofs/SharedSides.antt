@@ -1,17 +1,25 @@
 -- The sides that points share, from the bits of their sides.
-use Rattle.std.proofs.Common.{◌≡◌, ◌≢◌, ℕ, zero, suc, ◌*◌, ◌/◌, ◌%◌, ◌^◌, ◌<◌, ◌↔◌, min, true, false, not, nat_eq, IsBitSet, bit_and, List, [], ◌∷◌, length, get_or, refl, ap, sym, ◌∙◌, subst, inl, inr, arith}
+use Rattle.std.proofs.Common.{◌≡◌, ◌≢◌, ℕ, zero, suc, ◌*◌, ◌/◌, ◌%◌, ◌^◌, ◌<◌, ◌↔◌, min, Bool, true, false, true≢false, ℤ, pos, negsuc, not, nat_eq, IsBitSet, bit_and, List, [], ◌∷◌, length, get_or, refl, ap, sym, ◌∙◌, subst, inl, inr, arith}
 use Rattle.std.specs.Int.{bit_at}
 use Rattle.std.specs.Bool.{IsTrue}
-use Rattle.std.proofs.lemmas.Bool.{cases_eq, cases_lt, both_ways, not-true, not_from_false, ne_eqb, eq-eqb}
+use Rattle.std.proofs.lemmas.Bool.{cases_Bool, cases_eq, cases_lt, both_ways, not-true, not_from_false, ne_eqb, eq-eqb}
 use Rattle.std.proofs.lemmas.Nat.{pow_pos, and_le_l}
 use Rattle.std.proofs.lemmas.Nat.Bits.{and_pow, bit_at-suc, bit_at_lowest, bit_at-zero, bit_at-lt, bit_at_and, bit_at_above}
 use native.Mathlib.Nat.{pow-suc}
 use Rattle.grid.specs.declared.shapes.Point.{Point}
-use Rattle.grid.specs.Boxes.{along_x, along_y, along_z, Side, IsOn, IsOnOneSide}
+use Rattle.grid.specs.Boxes.{Axis, along_x, along_y, along_z, Side, IsOn, IsOnOneSide}
 use Rattle.grid.specs.Determinants.{point_at}
+use Rattle.grid.specs.Simplices.{is_rotation}
 use Rattle.grid.proofs.Rotations.{has3-cases}
-use Rattle.face_table.proofs.RotationLemmas.{has3-first, has3-second, has3-third}
-use Rattle.grid.specs.SideBits.{bit_of}
+use Rattle.face_table.proofs.RotationLemmas.{has3-first, has3-second, has3-third, has-rotation}
+use Rattle.grid.specs.SideBits.{bit_of, number_of, side_bits}
+use Rattle.grid.proofs.SideLemmas.{side_bits-IsOn}
+use Rattle.face_table.specs.declared.pairs.Paired.{Paired}
+use Rattle.face_table.specs.Pairing.{LiesOn, LieOnOneSide, IsPairedBy, IsPairing}
+use Rattle.face_table.proofs.PassLemmas.{IsPairedBy-same}
+use Rattle.std.proofs.Math.IntN.{neg_ℤ, neg_ℤ-neg_ℤ}
+use Rattle.std.specs.Ordering.{int_eq}
+use Rattle.std.proofs.lemmas.Bool.Decides.{Decides-int_eq}
 
 -- a number above 0 has a bit
 bit-found : (k n : ℕ) → n < 2 ^ k → n ≢ 0 → (i : ℕ) × (bit_at n i ≢ 0)
@@ -41,20 +49,75 @@ side_of (suc (suc (suc (suc (suc zero))))) l = (record { axis = along_z; is_far 
 side_of (suc (suc (suc (suc (suc (suc i)))))) l = absurd (omega arith)
 
 -- the bits x are those of the sides on which p lies
-abbrev AreSidesOf : ℕ → Point → ℕ → Type 0
-AreSidesOf l p x = (s : Side) → IsBitSet x (bit_of s) ↔ IsOn l s p
+abbrev AreSidesOf : ℤ → Point → ℕ → Type 0
+AreSidesOf l p x = (s : Side) → IsBitSet x (bit_of s) ↔ LiesOn l s p
+
+-- ---- a box below 0 is one above 0, turned round
+abbrev turned : Point → Point
+turned p = record { x = neg_ℤ p.x; y = neg_ℤ p.y; z = neg_ℤ p.z }
+
+int_eq-neg : (x y : ℤ) → int_eq x y ≡ int_eq (neg_ℤ x) (neg_ℤ y)
+int_eq-neg x y = elim (cases_Bool (int_eq x y)) [
+  | inl t ↦ t ∙ sym ((Decides-int_eq (neg_ℤ x) (neg_ℤ y)).1 (ap neg_ℤ ((Decides-int_eq x y).0 t)))
+  | inr f ↦ f ∙ sym (not_true (int_eq (neg_ℤ x) (neg_ℤ y)) (λ t. true≢false (sym ((Decides-int_eq x y).1 (neg-injective x y ((Decides-int_eq (neg_ℤ x) (neg_ℤ y)).0 t))) ∙ f)))
+] where
+  neg-injective : (a b : ℤ) → neg_ℤ a ≡ neg_ℤ b → a ≡ b
+  neg-injective a b e = sym (neg_ℤ-neg_ℤ a) ∙ ap neg_ℤ e ∙ neg_ℤ-neg_ℤ b
+
+  not_true : (b : Bool) → (b ≡ true → ⊥) → b ≡ false
+  not_true true h = absurd (h refl)
+  not_true false h = refl
+
+side_bits-turned : (z : ℤ) (p : Point) → side_bits z p ≡ side_bits (neg_ℤ z) (turned p)
+side_bits-turned z p i = number_of (int_eq-neg p.x (pos 0) i ∷ int_eq-neg p.x z i ∷ int_eq-neg p.y (pos 0) i ∷ int_eq-neg p.y z i ∷ int_eq-neg p.z (pos 0) i ∷ int_eq-neg p.z z i ∷ [])
+
+-- the bits of a point's sides are those of the sides on which it lies
+side_bits-LiesOn : (z : ℤ) (p : Point) → AreSidesOf z p (side_bits z p)
+side_bits-LiesOn (pos l) p s = side_bits-IsOn l p s
+side_bits-LiesOn (negsuc n) p s =
+    let on = side_bits-IsOn (suc n) (turned p) s in
+    let same = side_bits-turned (negsuc n) p in (
+      λ set. turned-from s (on.0 (subst (λ m. IsBitSet m (bit_of s)) same set)),
+      λ lies. subst (λ m. IsBitSet m (bit_of s)) (sym same) (on.1 (turned-to s lies)),
+    )
+  where
+    back : (x y : ℤ) → neg_ℤ x ≡ y → x ≡ neg_ℤ y
+    back x y e = sym (neg_ℤ-neg_ℤ x) ∙ ap neg_ℤ e
+
+    turned-from : (t : Side) → IsOn (suc n) t (turned p) → LiesOn (negsuc n) t p
+    turned-from t = by t.axis t.is_far where
+      by : (a : Axis) (f : Bool) → IsOn (suc n) (record { axis = a; is_far = f }) (turned p) → LiesOn (negsuc n) (record { axis = a; is_far = f }) p
+      by along_x true e = back p.x (pos (suc n)) e
+      by along_x false e = back p.x (pos 0) e
+      by along_y true e = back p.y (pos (suc n)) e
+      by along_y false e = back p.y (pos 0) e
+      by along_z true e = back p.z (pos (suc n)) e
+      by along_z false e = back p.z (pos 0) e
+
+    turned-to : (t : Side) → LiesOn (negsuc n) t p → IsOn (suc n) t (turned p)
+    turned-to t = by t.axis t.is_far where
+      by : (a : Axis) (f : Bool) → LiesOn (negsuc n) (record { axis = a; is_far = f }) p → IsOn (suc n) (record { axis = a; is_far = f }) (turned p)
+      by along_x true e = ap neg_ℤ e
+      by along_x false e = ap neg_ℤ e
+      by along_y true e = ap neg_ℤ e
+      by along_y false e = ap neg_ℤ e
+      by along_z true e = ap neg_ℤ e
+      by along_z false e = ap neg_ℤ e
+
+pub are-sides : (y z : ℤ) (p : Point) (n : ℕ) → y ≡ z → n ≡ side_bits y p → AreSidesOf z p n
+are-sides y z p n same is s = subst (λ m. IsBitSet m (bit_of s) ↔ LiesOn z s p) (sym (is ∙ ap (λ w. side_bits w p) same)) (side_bits-LiesOn z p s)
 
 -- a side on which three points lie
-pub record HaveSide (l : ℕ) (p q r : Point) : Type 0 where
+pub record HaveSide (l : ℤ) (p q r : Point) : Type 0 where
   pub side : Side
-  pub first : IsOn l side p
-  pub second : IsOn l side q
-  pub third : IsOn l side r
+  pub first : LiesOn l side p
+  pub second : LiesOn l side q
+  pub third : LiesOn l side r
 
 all_bits : (x y z k : ℕ) → bit_at (bit_and (bit_and x y) z) k ≡ min (min (bit_at x k) (bit_at y k)) (bit_at z k)
 all_bits x y z k = bit_at_and (bit_and x y) z k ∙ ap (λ m. min m (bit_at z k)) (bit_at_and x y k)
 
-module _ (l x y z : ℕ) (p q r : Point) (hp : AreSidesOf l p x) (hq : AreSidesOf l q y) (hr : AreSidesOf l r z) where
+module _ (l : ℤ) (x y z : ℕ) (p q r : Point) (hp : AreSidesOf l p x) (hq : AreSidesOf l q y) (hr : AreSidesOf l r z) where
   pub share-from : x < 64 → bit_and (bit_and x y) z ≢ 0 → HaveSide l p q r
   share-from few h =
       let n = bit_and (bit_and x y) z in
@@ -81,23 +144,23 @@ module _ (l x y z : ℕ) (p q r : Point) (hp : AreSidesOf l p x) (hq : AreSidesO
       absurd (omega (arith, all_bits x y z k, zero_bit, a, b, c))
 
 -- ---- the corners of a face
-module _ (points : List Point) (l : ℕ) where
+module _ (points : List Point) (l : ℤ) where
   -- the sides x, y, z of the corners
   pub record AreCornerSides (f : List ℕ) (x y z : ℕ) : Type 0 where
     pub first : AreSidesOf l (point_at points (get_or f 0 0)) x
     pub second : AreSidesOf l (point_at points (get_or f 1 0)) y
     pub third : AreSidesOf l (point_at points (get_or f 2 0)) z
 
-  pub share-side : (f : List ℕ) (x y z : ℕ) → length f ≡ 3 → x < 64 → AreCornerSides f x y z → IsTrue (not (nat_eq (bit_and (bit_and x y) z) 0)) ↔ IsOnOneSide points l f
+  pub share-side : (f : List ℕ) (x y z : ℕ) → length f ≡ 3 → x < 64 → AreCornerSides f x y z → IsTrue (not (nat_eq (bit_and (bit_and x y) z) 0)) ↔ LieOnOneSide points l f
   share-side (a ∷ b ∷ c ∷ []) x y z e few h =
       let n = bit_and (bit_and x y) z in (
         λ t. let s = share-from l x y z (point_at points a) (point_at points b) (point_at points c) h.first h.second h.third few (λ none. both_ways (nat_eq n 0) (not-true (nat_eq n 0) t) (eq-eqb n 0 none)) in
             record {
               side = s.side;
               corners = λ d w. elim (has3-cases a b c d w) [
-                | inl i ↦ subst (λ m. IsOn l s.side (point_at points m)) i s.first
-                | inr (inl i) ↦ subst (λ m. IsOn l s.side (point_at points m)) i s.second
-                | inr (inr i) ↦ subst (λ m. IsOn l s.side (point_at points m)) i s.third
+                | inl i ↦ subst (λ m. LiesOn l s.side (point_at points m)) i s.first
+                | inr (inl i) ↦ subst (λ m. LiesOn l s.side (point_at points m)) i s.second
+                | inr (inr i) ↦ subst (λ m. LiesOn l s.side (point_at points m)) i s.third
               ];
             },
         λ s. not_from_false (nat_eq n 0) (ne_eqb n 0 (share-to l x y z (point_at points a) (point_at points b) (point_at points c) h.first h.second h.third (record {
@@ -111,3 +174,13 @@ module _ (points : List Point) (l : ℕ) where
   share-side (a ∷ []) x y z e few h = absurd (omega arith)
   share-side (a ∷ b ∷ []) x y z e few h = absurd (omega arith)
   share-side (a ∷ b ∷ c ∷ d ∷ f) x y z e few h = absurd (omega arith)
+
+-- a rotation has the same corners
+pub LieOnOneSide-rotation : (points : List Point) (z : ℤ) (f g : List ℕ) → is_rotation g f ≡ true → LieOnOneSide points z f → LieOnOneSide points z g
+LieOnOneSide-rotation points z f g rotated s = record { side = s.side; corners = λ c w. s.corners c (has-rotation g f c rotated w) }
+
+-- a pairing by the sides of a box above 0
+pub IsPairedBy-pos : (points : List Point) (z : ℤ) (l : ℕ) (faces : List (List ℕ)) (paired : Paired) → z ≡ pos l → IsPairedBy (LieOnOneSide points z) faces paired → IsPairing points l faces paired
+IsPairedBy-pos points z l faces paired e h = IsPairedBy-same (LieOnOneSide points (pos l)) (IsOnOneSide points l) faces paired same (subst (λ y. IsPairedBy (LieOnOneSide points y) faces paired) e h) where
+  same : (f : List ℕ) → LieOnOneSide points (pos l) f ↔ IsOnOneSide points l f
+  same f = (λ s. record { side = s.side; corners = s.corners }, λ s. record { side = s.side; corners = s.corners })

@@ -1,8 +1,7 @@
 ghost use Rattle.std.specs.Prelude.{◌≡◌, ◌↔◌, ℕ, ◌<◌, pos, ◌++◌, [], length, map, All, IfOk, IsTrue, MatchOption};
-ghost use Rattle.grid.specs.Boxes.{IsOnOneSide};
 ghost use Rattle.grid.specs.Simplices.{all_faces, faces};
 ghost use Rattle.grid.specs.Views.{corners_of, triples_of};
-ghost use Rattle.face_table.specs.Pairing.{NoneTwice, LieOnSides, IsFirstLoose, IsFirstRepeat, IsPairing};
+ghost use Rattle.face_table.specs.Pairing.{NoneTwice, LooseHave, IsFirstLooseWithout, IsFirstRepeat, IsPairing, IsPairedBy, LieOnOneSide};
 ghost use Rattle.face_table.specs.Passes.{IsRepeatAfter, AreCounted};
 
 use crate::table::FaceTable;
@@ -29,6 +28,7 @@ pub enum Paired {
 pub fn pairing(alloc: Global, tets: &[Tet], points: &[Point], side: i32) -> Result<Paired, Memory>
     requires in_range { All (λ t. All (λ c. c < length points.now) t.0) tets.now }
     ensures is { (l : ℕ) → side ≡ pos l → IfOk result (IsPairing points.now l (all_faces (corners_of tets.now))) }
+    ensures any_side { IfOk result (IsPairedBy (LieOnOneSide points.now side) (all_faces (corners_of tets.now))) }
 {
     let mut table = FaceTable::new(alloc);
     if let Some(face) = first_repeat(&mut table, tets)? {
@@ -70,7 +70,7 @@ fn first_repeat_of(table: &mut FaceTable, faces: [Face; 4]) -> Result<Option<Fac
 /// The first loose face whose corners share no side of the box, of the faces of the tetrahedra.
 fn first_loose(table: &FaceTable, tets: &[Tet], points: &[Point], side: i32) -> Option<Face>
     requires { All (λ t. All (λ c. c < length points.now) t.0) tets.now }
-    ensures { (l : ℕ) → side ≡ pos l → MatchOption result (LieOnSides points.now l table.now (all_faces (corners_of tets.now))) (λ f. IsFirstLoose points.now l table.now (all_faces (corners_of tets.now)) f.0) }
+    ensures { MatchOption result (LooseHave (LieOnOneSide points.now side) table.now (all_faces (corners_of tets.now))) (λ f. IsFirstLooseWithout (LieOnOneSide points.now side) table.now (all_faces (corners_of tets.now)) f.0) }
 {
     for tet in tets {
         if let Some(face) = first_loose_of(table, tet.faces(), points, side) {
@@ -83,7 +83,7 @@ fn first_loose(table: &FaceTable, tets: &[Tet], points: &[Point], side: i32) -> 
 /// The first of the faces that is loose and whose corners share no side of the box.
 fn first_loose_of(table: &FaceTable, faces: [Face; 4], points: &[Point], side: i32) -> Option<Face>
     requires { All (λ f. All (λ c. c < length points.now) f.0) faces }
-    ensures { (l : ℕ) → side ≡ pos l → MatchOption result (LieOnSides points.now l table.now (triples_of faces)) (λ f. IsFirstLoose points.now l table.now (triples_of faces) f.0) }
+    ensures { MatchOption result (LooseHave (LieOnOneSide points.now side) table.now (triples_of faces)) (λ f. IsFirstLooseWithout (LieOnOneSide points.now side) table.now (triples_of faces) f.0) }
 {
     for face in &faces {
         if table.count(face.reverse()) == 0 && !share_side(*face, points, side) {
@@ -96,7 +96,7 @@ fn first_loose_of(table: &FaceTable, faces: [Face; 4], points: &[Point], side: i
 /// Whether the corners of the face share a side of the box from 0 to `side`.
 fn share_side(face: Face, points: &[Point], side: i32) -> bool
     requires { All (λ c. c < length points.now) face.0 }
-    ensures { (l : ℕ) → side ≡ pos l → IsTrue result ↔ IsOnOneSide points.now l face.0 }
+    ensures { IsTrue result ↔ LieOnOneSide points.now side face.0 }
 {
     let Face([a, b, c]) = face;
     let at_a = sides(points[a as usize], side);

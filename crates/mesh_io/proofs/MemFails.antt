@@ -54,6 +54,7 @@ open_fails m nth faults name listed rises kept =
     record {
       call = record { kind = record { told = refl; may_fail_reading = refl; may_fail_writing = refl }; count = record { kept = kept; ends = omega (arith, rises) }; no_fault = λ never. absurd (cc); other_count = refl; files = refl; writing = record { created = refl; writing = refl } };
       ok = tt;
+      quiet = tt;
       missing = λ e. absurd (cc);
       failed = λ _. record { may_fail = lists; rose = omega (arith, rises) };
       err = record { opened = refl; reading = refl; place = refl };
@@ -69,6 +70,7 @@ read_fails m nth faults into e listed rises kept =
       reading = refl;
       within = tt;
       given = tt;
+      quiet = tt;
       failed = record { may_fail = lists; rose = omega (arith, rises) };
       err = refl;
     }

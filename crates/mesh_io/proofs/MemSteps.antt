@@ -47,6 +47,7 @@ open_there m i opens name x has differ = record {
     reading = λ _. has.1;
     place = λ _. refl;
   };
+  quiet = refl;
   missing = λ e. cc;
   failed = λ e. cc;
   err = tt;
@@ -67,6 +68,7 @@ read_some m i at n reads into reading differ within chunk count bytes =
         moved = ap (λ p. p + n) (sym (ap place_of_reading reading));
         end = λ some none. length-zero (left (folder_state m)) (omega (arith, count, chunk, some, none, ap length left_is));
       };
+      quiet = refl;
       failed = tt;
       err = tt;
     } where
@@ -97,6 +99,7 @@ write_some m files i n writes bytes writing within differ is fits some =
       within = fits;
       some = some;
       appended = λ _. rw is (rw bytes_is (Puts-put m.files i (name_of_writing m.files m.writing) content differ within (sym name_is)));
+      quiet = refl;
       failed = tt;
       err = tt;
     }
@@ -147,6 +150,7 @@ create_there m files reading i creates name x has differ inside is again =
         same_place = λ _ ne. ap place_of_reading again ∙ place_of_reading-restart_other m.files m.reading i (λ same. ne (same ∙ has.1));
         start = λ _ _ same. ap place_of_reading again ∙ place_of_reading-restart m.files m.reading i differ has.0 inside (same ∙ sym has.1);
       };
+      quiet = refl;
       failed = tt;
       err = tt;
     }
@@ -180,6 +184,7 @@ create_new m files i creates name x none differ inside is last =
         same_place = λ _ ne. refl;
         start = λ _ _ same. place_of_nothing m.files m.reading name differ none inside same;
       };
+      quiet = refl;
       failed = tt;
       err = tt;
     }

@@ -15,6 +15,7 @@ pub record IsFront (first now : FolderState) (items : List ℕ) : Type 0 where
 -- what holds after each piece
 pub record HasRead (first now : FolderState) (items : List ℕ) : Type 0 where
   pub call : ReadCall first now
+  pub quiet : now.read_faults ≡ first.read_faults
   pub opened : now.opened ≡ true
   pub front : first.told ≡ true → IsFront first now items
 
@@ -26,6 +27,7 @@ left-after old new into n told read =
 pub goes_on : (first old new : FolderState) (items into after : List ℕ) (n : ℕ) → HasRead first old items → Reads old new into (Ok n) → after ≡ items ++ take n into → HasRead first new after
 goes_on first old new items into after n had read is = record {
   call = ReadCall-trans first old new had.call read.call;
+  quiet = read.quiet ∙ had.quiet;
   opened = read.opened ∙ had.opened;
   front = λ told.
       let front = had.front told in
@@ -56,23 +58,29 @@ left-opened first old name content told call opened there =
     ap (λ p. drop p (content_of old.files old.reading)) (opened.place told) ∙ ap (λ r. content_of old.files r) (opened.reading told) ∙ ap (λ fs. content_of fs name) call.files ∙ ap (λ o. unwrap_or o []) there
 
 -- a file was opened, and the rest of it read
-pub whole : (first old new : FolderState) (name : List ℕ) (limit : ℕ) (result : Result (Vec ℕ Global) ReadIssue) → ReadCall first old → IsOpened first old name → ReadsRest old new limit result → ReadsAll first new name limit result
-whole first old new name limit (Ok bytes) call opened rest = record {
+pub whole : (first old new : FolderState) (name : List ℕ) (limit : ℕ) (result : Result (Vec ℕ Global) ReadIssue) → ReadCall first old → old.read_faults ≡ first.read_faults → IsOpened first old name → ReadsRest old new limit result → ReadsAll first new name limit result
+whole first old new name limit (Ok bytes) call quiet opened rest = record {
   call = ReadCall-trans first old new call rest.call;
   taken = λ told. omega (arith, rest.taken (call.kind.told ∙ told), opened.place told);
   ok = λ told.
       let there = opened.there told in
       there.1 ∙ ap Some (sym (left-opened first old name there.0 told call opened there.1) ∙ sym (rest.ok (call.kind.told ∙ told)));
+  quiet = rest.quiet ∙ quiet;
+  quiet_too_long = λ is. cc;
+  quiet_memory = λ is. cc;
   fits = rest.fits;
   too_long = λ is. cc;
   missing = λ is. cc;
   failed = λ is. cc;
   memory = λ is. cc;
 }
-whole first old new name limit (Err issue) call opened rest = record {
+whole first old new name limit (Err issue) call quiet opened rest = record {
   call = ReadCall-trans first old new call rest.call;
   taken = λ told. omega (arith, rest.taken (call.kind.told ∙ told), opened.place told);
   ok = tt;
+  quiet = tt;
+  quiet_too_long = λ is. rest.quiet_too_long is ∙ quiet;
+  quiet_memory = λ is. rest.quiet_memory is ∙ quiet;
   fits = tt;
   too_long = λ is told.
       let there = opened.there told in

@@ -20,6 +20,7 @@ none_left n bytes e = sym (append-nil (take n bytes)) ∙ ap (λ r. take n bytes
 -- of the bytes all but the rest was appended since the first state
 pub record HasAppended (first now : SinkState) (bytes rest : List ℕ) : Type 0 where
   pub call : SinkCall first now
+  pub quiet : now.faults ≡ first.faults
   pub done : ℕ
   pub rest_is : rest ≡ drop done bytes
   pub appended : Appended first now (take done bytes)
@@ -27,6 +28,7 @@ pub record HasAppended (first now : SinkState) (bytes rest : List ℕ) : Type 0 
 pub appends_on : (first old new : SinkState) (bytes rest after : List ℕ) (n : ℕ) → HasAppended first old bytes rest → Writes old new rest (Ok n) → after ≡ drop n rest → HasAppended first new bytes after
 appends_on first old new bytes rest after n had write is = record {
   call = SinkCall-trans first old new had.call write.call;
+  quiet = write.quiet ∙ had.quiet;
   done = had.done + n;
   rest_is = is ∙ next_rest had.done n bytes rest had.rest_is;
   appended = λ told. write.appended (had.call.told ∙ told) ∙ ap (λ bs. bs ++ take n rest) (had.appended told) ∙ append_assoc first.bytes (take had.done bytes) (take n rest) ∙ ap (λ bs. first.bytes ++ bs) (sym (next_part had.done n bytes rest had.rest_is));
@@ -35,6 +37,7 @@ appends_on first old new bytes rest after n had write is = record {
 -- of the bytes all but the rest was written to the new file since the first state
 pub record HasWritten (first now : FolderState) (name bytes rest : List ℕ) : Type 0 where
   pub call : WriteCall first now
+  pub quiet : now.write_faults ≡ first.write_faults
   pub done : ℕ
   pub rest_is : rest ≡ drop done bytes
   pub file : IsCreated first now name (take done bytes)
@@ -42,6 +45,7 @@ pub record HasWritten (first now : FolderState) (name bytes rest : List ℕ) : T
 pub writes_on : (first old new : FolderState) (name bytes rest after : List ℕ) (n : ℕ) → HasWritten first old name bytes rest → WritesSome old new rest (Ok n) → after ≡ drop n rest → HasWritten first new name bytes after
 writes_on first old new name bytes rest after n had write is = record {
   call = WriteCall-trans first old new had.call write.call;
+  quiet = write.quiet ∙ had.quiet;
   done = had.done + n;
   rest_is = is ∙ next_rest had.done n bytes rest had.rest_is;
   file = record {

@@ -104,6 +104,7 @@ pub record IsOpened (old new : FolderState) (name : List ℕ) : Type 0 where
 pub record Opens {T : Type 0} (old new : FolderState) (name : List ℕ) (result : Result T OpenIssue) : Type 0 where
   pub call : ReadCall old new
   pub ok : OnOk result (IsOpened old new name)
+  pub quiet : OnOk result (new.read_faults ≡ old.read_faults)
   pub missing : IsErrOf result open_issue.Missing → IsMissing old new name
   pub failed : IsErrOf result open_issue.Failed → ReadRose old new
   pub err : OnErr result (SameReading old new)
@@ -126,6 +127,7 @@ pub record Reads (old new : FolderState) (into : List ℕ) (result : Result ℕ 
   pub reading : new.reading ≡ old.reading
   pub within : IfOk result (λ n. n ≤ length into)
   pub given : IfOk result (λ n. old.told ≡ true → Gives old new into n)
+  pub quiet : OnOk result (new.read_faults ≡ old.read_faults)
   pub failed : OnErr result (ReadRose old new)
   pub err : OnErr result (new.place ≡ old.place)
 
@@ -148,6 +150,7 @@ pub record SameFiles (old new : FolderState) : Type 0 where
 pub record Creates {T : Type 0} (old new : FolderState) (name : List ℕ) (result : Result T Failed) : Type 0 where
   pub call : WriteCall old new
   pub ok : OnOk result (IsCreated old new name [])
+  pub quiet : OnOk result (new.write_faults ≡ old.write_faults)
   pub failed : OnErr result (WriteRose old new)
   pub err : OnErr result (SameFiles old new)
 
@@ -163,5 +166,6 @@ pub record WritesSome (old new : FolderState) (bytes : List ℕ) (result : Resul
   pub within : IfOk result (λ n. n ≤ length bytes)
   pub some : IfOk result (λ n. 0 < length bytes → 0 < n)
   pub appended : IfOk result (λ n. old.told ≡ true → Appends old new (take n bytes))
+  pub quiet : OnOk result (new.write_faults ≡ old.write_faults)
   pub failed : OnErr result (WriteRose old new)
   pub err : OnErr result (new.files ≡ old.files)

@@ -1,5 +1,5 @@
 -- Reading a whole file.
-use Rattle.std.specs.Prelude.{◌≡◌, ℕ, ◌+◌, ◌<◌, ◌≤◌, true, List, length, Vec, Some, Result, IfOk, IsErrOf, max}
+use Rattle.std.specs.Prelude.{◌≡◌, ℕ, ◌+◌, ◌<◌, ◌≤◌, true, List, length, Vec, Some, Result, IfOk, OnOk, IsErrOf, max}
 use Rattle.std.specs.declared.alloc.Global.{Global}
 use Rattle.mesh_io.specs.Folder.{FolderState, ReadCall, ReadRose, IsMissing, IsThere, left}
 use Rattle.mesh_io.specs.declared.read.ReadIssue.{ReadIssue}
@@ -14,6 +14,9 @@ pub record ReadsAll (old new : FolderState) (name : List ℕ) (limit : ℕ) (res
   pub call : ReadCall old new
   pub taken : old.told ≡ true → new.place ≤ max old.place (limit + 1)
   pub ok : IfOk result (λ bytes. old.told ≡ true → old.files name ≡ Some bytes.items)
+  pub quiet : OnOk result (new.read_faults ≡ old.read_faults)
+  pub quiet_too_long : IsErrOf result read_issue.TooLong → new.read_faults ≡ old.read_faults
+  pub quiet_memory : IsErrOf result read_issue.Memory → new.read_faults ≡ old.read_faults
   pub fits : IfOk result (λ bytes. length bytes.items ≤ limit)
   pub too_long : IsErrOf result read_issue.TooLong → old.told ≡ true → IsLonger old name limit
   pub missing : IsErrOf result read_issue.Missing → IsMissing old new name
@@ -25,6 +28,9 @@ pub record ReadsRest (old new : FolderState) (limit : ℕ) (result : Result (Vec
   pub call : ReadCall old new
   pub taken : old.told ≡ true → new.place ≤ old.place + (limit + 1)
   pub ok : IfOk result (λ bytes. old.told ≡ true → bytes.items ≡ left old)
+  pub quiet : OnOk result (new.read_faults ≡ old.read_faults)
+  pub quiet_too_long : IsErrOf result read_issue.TooLong → new.read_faults ≡ old.read_faults
+  pub quiet_memory : IsErrOf result read_issue.Memory → new.read_faults ≡ old.read_faults
   pub fits : IfOk result (λ bytes. length bytes.items ≤ limit)
   pub too_long : IsErrOf result read_issue.TooLong → old.told ≡ true → limit < length (left old)
   pub missing : IsErrOf result read_issue.Missing → ⊥

@@ -1,5 +1,5 @@
 -- What an output is, and what a write does to it.
-use Rattle.std.specs.Prelude.{◌≡◌, ℕ, ◌<◌, ◌≤◌, Bool, true, false, List, ◌++◌, length, take, Result, IfOk, OnErr}
+use Rattle.std.specs.Prelude.{◌≡◌, ℕ, ◌<◌, ◌≤◌, Bool, true, false, List, ◌++◌, length, take, Result, IfOk, OnOk, OnErr}
 use Rattle.mesh_io.specs.Faults.{Rose, OnlyRises}
 use Rattle.mesh_io.specs.declared.folder.Failed.{Failed}
 
@@ -34,5 +34,6 @@ pub record Writes (old new : SinkState) (bytes : List ℕ) (result : Result ℕ 
   pub within : IfOk result (λ n. n ≤ length bytes)
   pub some : IfOk result (λ n. 0 < length bytes → 0 < n)
   pub appended : IfOk result (λ n. Appended old new (take n bytes))
+  pub quiet : OnOk result (new.faults ≡ old.faults)
   pub failed : OnErr result (SinkRose old new)
   pub err : OnErr result (new.bytes ≡ old.bytes)

@@ -21,10 +21,11 @@ pub enum OpenIssue {
 /// Named files, of which one at a time is read and one at a time is written.
 ///
 /// A folder keeps two counts of faults: the read count, of `open` and `read`, and the write count,
-/// of `create` and `write`. A call raises no count but its own, a count never falls, and at
-/// 2^64 - 1 it stands still. `Failed` comes only where the call's own count rose, where a count
-/// that stands at 2^64 - 1 is taken as risen. A call that answers an error leaves the files, the
-/// file that is read, the reading place and the file that is written as they were.
+/// of `create` and `write`. A call raises no count but its own, and none where it answers `Ok`. A
+/// count never falls, and at 2^64 - 1 it stands still. `Failed` comes only where the call's own
+/// count rose, where a count that stands at 2^64 - 1 is taken as risen. A call that answers an error
+/// leaves the files, the file that is read, the reading place and the file that is written as they
+/// were.
 ///
 /// A folder may keep to itself what its files hold, as one over the files of the system does. All
 /// clauses on content are for the folders that tell their files.

@@ -4,9 +4,9 @@ use crate::folder::Failed;
 
 /// An output that only grows.
 ///
-/// A sink keeps one count of faults, which never falls and stands still at 2^64 - 1. It may keep
-/// to itself what was written, as the standard output does. The clauses on bytes are for the sinks
-/// that tell them.
+/// A sink keeps one count of faults, which never falls, does not rise in a write that answers `Ok`,
+/// and stands still at 2^64 - 1. It may keep to itself what was written, as the standard output
+/// does. The clauses on bytes are for the sinks that tell them.
 pub trait Sink {
     /// What was written so far, and the count of faults.
     ghost state: { Self → SinkState };

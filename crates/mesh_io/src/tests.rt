@@ -5,6 +5,8 @@ ghost use Rattle.mesh_io.specs.MemFiles.{AllNamesDiffer};
 use crate::*;
 use items::{Items, Text};
 use std::alloc::{AllocError, Global};
+use std::fmt::Display;
+use std::io::{Error, ErrorKind};
 use std::test::Fail;
 
 fn one_file(alloc: Global, name: &str, bytes: &[u8]) -> Result<Vec<MemFile>, AllocError>
@@ -180,4 +182,65 @@ fn real_output(rt: HostRuntime) -> Result<(), Fail> {
     let mut sink = RealSink::new(&rt);
     assert_eq!(rt; write_all(&mut sink, b"points 8 tets 6\n"), Ok(()));
     Ok(())
+}
+
+#[test]
+fn faults_of_real_files(rt: HostRuntime) -> Result<(), Fail> {
+    let alloc = rt.alloc();
+    let name = "real_folder_faults.txt";
+    let mut folder = RealFolder::new(&rt);
+    write_file(&mut folder, name, b"OFF\n")?;
+    // below a file there is none, and a folder opens but has no bytes
+    assert_eq!(rt;
+        folder.open("real_folder_faults.txt/below"),
+        Err(OpenIssue::Failed)
+    );
+    assert!(rt;
+        matches!(
+            read_all(alloc, &mut folder, ".", 20),
+            Err(ReadIssue::Failed)
+        )
+    );
+    assert_eq!(rt; folder.create("real_folder_faults.txt/below"), Err(Failed));
+    std::fs::remove_file(&rt, name)?;
+    assert_eq!(rt; write_file(&mut folder, "/dev/full", b"OFF\n"), Err(Failed));
+    Ok(())
+}
+
+/// A standard output that takes at most `most` bytes a write, and is closed where that is 0.
+#[derive(Drop)]
+struct NarrowOutput {
+    most: usize,
+}
+
+impl Print for NarrowOutput {
+    fn print<D: Display + Drop>(&self, _: D) -> std::io::Result<()> {
+        Err(Error::from(ErrorKind::Unsupported))
+    }
+
+    fn println<D: Display + Drop>(&self, _: D) -> std::io::Result<()> {
+        Err(Error::from(ErrorKind::Unsupported))
+    }
+
+    fn write_all(&self, _: &[u8]) -> std::io::Result<()> {
+        Err(Error::from(ErrorKind::Unsupported))
+    }
+
+    fn write_some(&self, bytes: &[u8]) -> std::io::Result<usize> {
+        if self.most == 0 {
+            return Err(Error::from(ErrorKind::BrokenPipe));
+        }
+        Ok(bytes.len().min(self.most))
+    }
+}
+
+#[test]
+fn faults_of_a_real_output(rt: HostRuntime) {
+    let narrow = NarrowOutput { most: 3 };
+    let mut sink = RealSink::new(&narrow);
+    assert_eq!(rt; sink.write(b"points"), Ok(3));
+    assert_eq!(rt; sink.write(b"8"), Ok(1));
+    let closed = NarrowOutput { most: 0 };
+    let mut sink = RealSink::new(&closed);
+    assert_eq!(rt; sink.write(b"points"), Err(Failed));
 }
