@@ -2,9 +2,16 @@
 //! are the mesh's list. A slot is killed and revived in place, so that what changed can be undone.
 #![tactic(auto)]
 
+mod bins;
+mod levels;
+mod meeting;
+mod place;
+mod point_lists;
 mod search;
 mod slot;
 mod slots;
+mod sorting;
 
 pub use slot::Slot;
 pub use slots::Slots;
+pub use sorting::rise;

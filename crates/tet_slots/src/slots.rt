@@ -1,40 +1,54 @@
 ghost use Rattle.grid.specs.Determinants.{point_at};
 ghost use Rattle.grid.specs.Simplices.{IsTet};
-ghost use Rattle.std.specs.Prelude.{All, IfOk, OnErr, OnOk, [], false, length, take, true, ◌++◌, ◌-◌, ◌<◌, ◌^◌, ◌∷◌, ◌≡◌};
+ghost use Rattle.std.specs.Prelude.{All, IfOk, OnErr, OnOk, [], false, length, take, slice_set, true, ◌++◌, ◌-◌, ◌<◌, ◌^◌, ◌∷◌, ◌≡◌};
 ghost use Rattle.tet_slots.specs.Searches.{has_corner, has_edge, meets, numbers_of};
-ghost use Rattle.tet_slots.specs.Slots.{IsSound, IsUnused, SlotLists, slot_at, with_live};
+ghost use Rattle.tet_slots.specs.Slots.{IsSound, IsUnused, SlotLists, is_forgotten, slot_at, with_live};
 
-use crate::search;
+use crate::bins::Level;
+use crate::meeting::Quest;
+use crate::place::{self, Place};
+use crate::point_lists::{self, SlotList};
 use crate::slot::Slot;
+use crate::{levels, search, sorting};
 use grid::{Memory, Point, Tet};
+use smallvec::SmallVec;
 use std::alloc::Global;
 use std::marker::Model;
 
 /// Points and slots, each numbered from 0 as they are made. There are at most 2^31 of each.
-#[derive(Debug, Drop)]
+#[derive(Drop)]
 pub struct Slots {
     points: Vec<Point>,
     slots: Vec<Slot>,
+    forgotten: Vec<bool>,
+    lists: Vec<SlotList>,
+    places: Vec<Place>,
+    levels: Vec<Level>,
 }
 
 impl Model for Slots {
-    ghost use Rattle.tet_slots.specs.Slots.{IsSound, SlotLists};
+    ghost use Rattle.tet_slots.specs.Kept.{IsWhole};
+    ghost use Rattle.tet_slots.specs.Slots.{SlotLists};
 
     ghost Value = { SlotLists };
 
-    ghost view = { λ s. record { points = s.points.items; slots = s.slots.items } };
+    ghost view = { λ s. record { points = s.points.items; slots = s.slots.items; forgotten = s.forgotten.items } };
 
-    ghost invariant = { λ s. IsSound (record { points = s.points.items; slots = s.slots.items }) };
+    ghost invariant = { λ s. IsWhole s.points.items s.slots.items s.forgotten.items s.lists.items s.places.items s.levels.items };
 }
 
 impl Slots {
     /// No points and no slots. Takes no memory.
     pub fn new(alloc: Global) -> Slots
-        ensures { result ≡ record { points = []; slots = [] } }
+        ensures { result ≡ record { points = []; slots = []; forgotten = [] } }
     {
         Slots {
             points: Vec::new(alloc),
             slots: Vec::new(alloc),
+            forgotten: Vec::new(alloc),
+            lists: Vec::new(alloc),
+            places: Vec::new(alloc),
+            levels: Vec::new(alloc),
         }
     }
 
@@ -47,7 +61,12 @@ impl Slots {
         ensures err { OnErr result (self.new ≡ self.old) }
     {
         let number = self.points.len() as u32;
-        self.points.push(p)?;
+        push_both(
+            &mut self.points,
+            p,
+            &mut self.lists,
+            SmallVec::new(*self.slots.allocator()),
+        )?;
         Ok(number)
     }
 
@@ -56,11 +75,24 @@ impl Slots {
         requires room { length self.old.slots < 2 ^ 31 }
         requires corners { IsTet (length self.old.points) t.0 }
         ensures number { IfOk result (λ k. k ≡ length self.old.slots) }
-        ensures ok { OnOk result (self.new ≡ record self.old { slots = self.old.slots ++ record { tet = t; live = true } ∷ [] }) }
+        ensures ok { OnOk result (self.new ≡ record self.old { slots = self.old.slots ++ record { tet = t; live = true } ∷ []; forgotten = self.old.forgotten ++ false ∷ [] }) }
         ensures err { OnErr result (self.new ≡ self.old) }
     {
+        let alloc = *self.slots.allocator();
         let number = self.slots.len() as u32;
-        self.slots.push(Slot { tet: t, live: true })?;
+        let place = place::place_of(&self.points, t);
+        point_lists::enter(&mut self.lists, &t.0, number)?;
+        let slot = Slot { tet: t, live: true };
+        let Ok(()) = push_both(&mut self.slots, slot, &mut self.forgotten, false) else {
+            point_lists::leave_last(&mut self.lists, &t.0);
+            return Err(Memory);
+        };
+        let Ok(()) = levels::add(alloc, &mut self.levels, &mut self.places, place, number) else {
+            let _ = self.slots.pop();
+            let _ = self.forgotten.pop();
+            point_lists::leave_last(&mut self.lists, &t.0);
+            return Err(Memory);
+        };
         Ok(number)
     }
 
@@ -71,21 +103,30 @@ impl Slots {
         ensures { self.new ≡ record self.old { points = take (length self.old.points - 1) self.old.points } }
     {
         let _ = self.points.pop();
+        let _ = self.lists.pop();
     }
 
-    /// Removes the last slot, live or dead.
+    /// Removes the last slot, live, dead or forgotten.
     pub fn drop_tet(&mut self)
         requires { 0 < length self.old.slots }
-        ensures { self.new ≡ record self.old { slots = take (length self.old.slots - 1) self.old.slots } }
+        ensures { self.new ≡ record self.old { slots = take (length self.old.slots - 1) self.old.slots; forgotten = take (length self.old.slots - 1) self.old.forgotten } }
     {
+        let last = self.slots.len() - 1;
+        if !self.forgotten[last] {
+            point_lists::leave_last(&mut self.lists, &self.slots[last].tet.0);
+            levels::leave(&mut self.levels, self.places[last], last as u32);
+        }
         let _ = self.slots.pop();
+        let _ = self.forgotten.pop();
+        let _ = self.places.pop();
     }
 
     /// Makes a live slot dead.
     pub fn kill(&mut self, slot: u32)
         requires there { slot < length self.old.slots }
         requires live { (slot_at self.old.slots slot).live ≡ true }
-        ensures { self.new ≡ record self.old { slots = with_live false slot self.old.slots } }
+        ensures slots { self.new ≡ record self.old { slots = with_live false slot self.old.slots } }
+        ensures known { is_forgotten self.new.forgotten slot ≡ false }
     {
         self.slots[slot as usize].live = false;
     }
@@ -94,16 +135,34 @@ impl Slots {
     pub fn revive(&mut self, slot: u32)
         requires there { slot < length self.old.slots }
         requires dead { (slot_at self.old.slots slot).live ≡ false }
+        requires known { is_forgotten self.old.forgotten slot ≡ false }
         ensures { self.new ≡ record self.old { slots = with_live true slot self.old.slots } }
     {
         self.slots[slot as usize].live = true;
+    }
+
+    /// Forgets a dead slot: it stays dead, and only `drop_tet` may change it. Takes no memory.
+    pub fn forget(&mut self, slot: u32)
+        requires there { slot < length self.old.slots }
+        requires dead { (slot_at self.old.slots slot).live ≡ false }
+        requires known { is_forgotten self.old.forgotten slot ≡ false }
+        ensures { self.new ≡ record self.old { forgotten = slice_set self.old.forgotten slot true } }
+    {
+        point_lists::leave(&mut self.lists, &self.slots[slot as usize].tet.0, slot);
+        levels::leave(&mut self.levels, self.places[slot as usize], slot);
+        self.forgotten[slot as usize] = true;
     }
 
     /// Makes `into` the live slots that have u, in rising order. After Memory nothing is said of it.
     pub fn having(&self, u: u32, into: &mut Vec<u32>) -> Result<(), Memory>
         ensures { OnOk result (into.new.items ≡ numbers_of (has_corner u) 0 self.now.slots) }
     {
-        search::find_having(&self.slots, u, into)
+        into.clear();
+        if u as usize >= self.lists.len() {
+            return Ok(());
+        }
+        search::find_live(&self.slots, self.lists[u as usize].as_slice(), into)?;
+        Ok(())
     }
 
     /// Makes `into` the live slots that have both u and v, in rising order. After Memory nothing is
@@ -111,7 +170,12 @@ impl Slots {
     pub fn having2(&self, u: u32, v: u32, into: &mut Vec<u32>) -> Result<(), Memory>
         ensures { OnOk result (into.new.items ≡ numbers_of (has_edge u v) 0 self.now.slots) }
     {
-        search::find_having2(&self.slots, u, v, into)
+        into.clear();
+        if u as usize >= self.lists.len() {
+            return Ok(());
+        }
+        search::find_live_with(&self.slots, self.lists[u as usize].as_slice(), v, into)?;
+        Ok(())
     }
 
     /// Makes `into` the live slots whose bounding box meets the box from `lo` to `hi`, where touching
@@ -119,7 +183,16 @@ impl Slots {
     pub fn meeting(&self, lo: Point, hi: Point, into: &mut Vec<u32>) -> Result<(), Memory>
         ensures { OnOk result (into.new.items ≡ numbers_of (meets self.now.points lo hi) 0 self.now.slots) }
     {
-        search::find_meeting(&self.points, &self.slots, lo, hi, into)
+        into.clear();
+        let quest = Quest {
+            points: &self.points,
+            slots: &self.slots,
+            lo,
+            hi,
+        };
+        quest.find(&self.levels, into)?;
+        sorting::rise(into);
+        Ok(())
     }
 
     /// The point of a number.
@@ -162,6 +235,26 @@ impl Slots {
     {
         self.slots.len() as u32
     }
+}
+
+/// Pushes a value to each of two lists. After Memory nothing changed.
+fn push_both<A: Drop, B: Drop>(
+    left: &mut Vec<A>,
+    a: A,
+    right: &mut Vec<B>,
+    b: B,
+) -> Result<(), Memory>
+    ensures left_ok { OnOk result (left.new.items ≡ left.old.items ++ a ∷ []) }
+    ensures right_ok { OnOk result (right.new.items ≡ right.old.items ++ b ∷ []) }
+    ensures left_err { OnErr result (left.new.items ≡ left.old.items) }
+    ensures right_err { OnErr result (right.new.items ≡ right.old.items) }
+{
+    left.push(a)?;
+    let Ok(()) = right.push(b) else {
+        let _ = left.pop();
+        return Err(Memory);
+    };
+    Ok(())
 }
 
 #[cfg(test)]

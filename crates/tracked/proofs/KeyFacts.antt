@@ -16,7 +16,7 @@ use Rattle.tracked.proofs.KeyLemmas.{put-new}
 use Rattle.tracked.proofs.PairLemmas.{in-apart}
 
 -- ---- the test of two faces
-same-equal : (f g : Face) → same_face f g ≡ true → f ≡ g
+pub same-equal : (f g : Face) → same_face f g ≡ true → f ≡ g
 same-equal f g e = ap (λ (x : List ℕ). record { 0 = x }) ((bytes_eq-Decides f.0 g.0).0 e)
 
 same_bools : (p q : Bool) → (p ≡ true → q ≡ true) → (q ≡ true → p ≡ true) → p ≡ q
@@ -24,7 +24,7 @@ same_bools true q f g = sym (f refl)
 same_bools false true f g = g refl
 same_bools false false f g = refl
 
-same_face-IsEquivalence : IsEquivalence same_face
+pub same_face-IsEquivalence : IsEquivalence same_face
 same_face-IsEquivalence = record {
   refl = λ f. (bytes_eq-Decides f.0 f.0).1 refl;
   symm = λ f g. same_bools (same_face f g) (same_face g f) (λ e. (bytes_eq-Decides g.0 f.0).1 (sym ((bytes_eq-Decides f.0 g.0).0 e))) (λ e. (bytes_eq-Decides f.0 g.0).1 (sym ((bytes_eq-Decides g.0 f.0).0 e)));

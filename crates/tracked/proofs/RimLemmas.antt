@@ -16,20 +16,13 @@ edge_is all u v e =
     let p = and_parts (not (nat_eq u v)) (nat_eq (triples_at all u v) 1) e in
     record { other = v; differs = λ f. eqb-false u v (not_true (nat_eq u v) p.0) (sym f); one = eqb-true (triples_at all u v) 1 p.1 }
 
-corner_is : (all : List (List ℕ)) (u : ℕ) (t : List ℕ) → has_rim_edge all u t ≡ true → IsRim all u
-corner_is all u [] e = absurd (true≢false (sym e))
-corner_is all u (v ∷ t) e = elim (or_cases (is_rim_edge all u v) (has_rim_edge all u t) e) [ inl f ↦ edge_is all u v f | inr f ↦ corner_is all u t f ]
+pub IsRim-from_edge : (all : List (List ℕ)) (u : ℕ) (t : List ℕ) → has_rim_edge all u t ≡ true → IsRim all u
+IsRim-from_edge all u [] e = absurd (true≢false (sym e))
+IsRim-from_edge all u (v ∷ t) e = elim (or_cases (is_rim_edge all u v) (has_rim_edge all u t) e) [ inl f ↦ edge_is all u v f | inr f ↦ IsRim-from_edge all u t f ]
 
 -- what the test of each triple finds
 abbrev pub finds : List (List ℕ) → ℕ → List (List ℕ) → Bool
 finds all u ts = list_any (λ t. has t u && has_rim_edge all u t) ts
-
-pub IsRim-from_finds : (all : List (List ℕ)) (u : ℕ) (ts : List (List ℕ)) → finds all u ts ≡ true → IsRim all u
-IsRim-from_finds all u [] e = absurd (true≢false (sym e))
-IsRim-from_finds all u (t ∷ ts) e = elim (or_cases (has t u && has_rim_edge all u t) (finds all u ts) e) [
-  | inl f ↦ corner_is all u t (and_parts (has t u) (has_rim_edge all u t) f).1
-  | inr f ↦ IsRim-from_finds all u ts f
-]
 
 corner_to : (all : List (List ℕ)) (u v : ℕ) (t : List ℕ) → is_rim_edge all u v ≡ true → has t v ≡ true → has_rim_edge all u t ≡ true
 corner_to all u v [] e h = absurd (true≢false (sym h))

@@ -21,7 +21,7 @@ use Rattle.tracked.specs.Keys.{same_face}
 abbrev pub face_cmp : Face → Face → Ordering
 face_cmp f g = slice_cmp nat_cmp f.0 g.0
 
-face_cmp-total : IsTotalOrder face_cmp
+pub face_cmp-total : IsTotalOrder face_cmp
 face_cmp-total = record {
   antisymm = λ f g. nat_list_cmp_total.antisymm f.0 g.0;
   trans = λ f g h. nat_list_cmp_total.trans f.0 g.0 h.0;
@@ -43,7 +43,7 @@ Ordered-sorted (f ∷ fs) h = (below_all f fs h.0, Ordered-sorted fs h.1)
 abbrev LessOrEqual : List Face → Type 0
 LessOrEqual fs = (k : ℕ) (d : Face) → 0 ≤ k → k + 1 < length fs → is_lt (face_cmp (get_or fs (k + 1) d) (get_or fs k d)) ≡ false
 
-flip_eq : (x y : List ℕ) → bytes_eq x y ≡ bytes_eq y x
+pub flip_eq : (x y : List ℕ) → bytes_eq x y ≡ bytes_eq y x
 flip_eq x y = same_bools (bytes_eq x y) (bytes_eq y x) (λ e. (bytes_eq-Decides y x).1 (sym ((bytes_eq-Decides x y).0 e))) (λ e. (bytes_eq-Decides x y).1 (sym ((bytes_eq-Decides y x).0 e)))
   where
     same_bools : (p q : Bool) → (p ≡ true → q ≡ true) → (q ≡ true → p ≡ true) → p ≡ q

@@ -1,10 +1,12 @@
 -- Keys in the order made, each in or out.
-use Rattle.std.specs.Prelude.{◌^◌, Bool, true, false, cond, Option, None, Some, List, [], ◌∷◌, unwrap_or, All}
+use Rattle.std.specs.Prelude.{ℕ, ◌^◌, Bool, true, false, cond, Option, None, Some, List, [], ◌∷◌, unwrap_or, slice_index_or, All}
+use Rattle.std.specs.List.{filter}
 use Rattle.std.specs.Str.{bytes_eq}
 use Rattle.std.specs.Map.{lookup}
 use Rattle.indexmap.specs.IndexMap.{insert_entry}
 use Rattle.grid.specs.declared.shapes.Face.{Face}
 use Rattle.grid.specs.Meshes.{IsTriple}
+use Rattle.grid.specs.Simplices.{has}
 use Rattle.tracked.specs.declared.table.Added.{Added}
 use Rattle.tracked.specs.declared.table.Added.TheVariants.{Already, Restored, New}
 
@@ -36,6 +38,14 @@ added_for (Some false) = Restored
 abbrev pub faces_in : Keys → List Face
 faces_in [] = []
 faces_in (k ∷ ks) = cond k.1 (k.0 ∷ faces_in ks) (faces_in ks)
+
+-- those of them that have u
+abbrev pub faces_at : Keys → ℕ → List Face
+faces_at keys u = filter (λ f. has f.0 u) (faces_in keys)
+
+-- the key at a place with its state; outside the list, no corners that are out
+abbrev pub entry_at : Keys → ℕ → Face × Bool
+entry_at keys i = slice_index_or keys i (record { 0 = [] }, false)
 
 -- each key is a rising triple
 abbrev pub AreTriples : Keys → Type 0

@@ -4,11 +4,13 @@ ghost use Rattle.grid.specs.Simplices.{Rises, has};
 ghost use Rattle.grid.specs.Views.{triples_of};
 ghost use Rattle.std.specs.List.{IsDistinct};
 ghost use Rattle.std.specs.List.Sorted.{IsPermutation};
-ghost use Rattle.std.specs.Prelude.{IfOk, IsTrue, OnErr, OnOk, Some, [], false, length, take, true, ◌-◌, ◌<◌, ◌≡◌, ◌≢◌, ◌↔◌};
+ghost use Rattle.std.specs.Prelude.{All, IfOk, IsTrue, None, OnErr, OnOk, Some, [], false, length, take, true, ◌-◌, ◌<◌, ◌^◌, ◌≡◌, ◌≢◌, ◌↔◌};
 ghost use Rattle.std.specs.Str.{bytes_eq};
-ghost use Rattle.tracked.specs.Keys.{added_for, faces_in, is_in, put, state_of};
+ghost use Rattle.tracked.specs.Keys.{added_for, entry_at, faces_at, faces_in, is_in, put, state_of};
+ghost use Rattle.tracked.specs.Places.{places_of};
 ghost use Rattle.tracked.specs.RimEdges.{has_rim_edge, is_rim_edge};
 
+use crate::index::{self, Index};
 use grid::{Face, Memory};
 use indexmap::IndexMap;
 use std::alloc::Global;
@@ -22,21 +24,24 @@ pub enum Added {
     New,
 }
 
-/// Keys in the order made, each in or out. A key is a rising triple of point numbers.
+/// Keys in the order made, each in or out. A key is a rising triple of point numbers. There are fewer
+/// than 2^32.
 #[derive(Drop)]
 pub struct Tracked {
+    alloc: Global,
     keys: IndexMap<Face, bool>,
+    index: Index,
 }
 
 impl Model for Tracked {
-    ghost use Rattle.std.specs.Str.{bytes_eq};
-    ghost use Rattle.tracked.specs.Keys.{AreTriples, Keys};
+    ghost use Rattle.tracked.specs.Keys.{Keys};
+    ghost use Rattle.tracked.specs.Places.{IsIndexed};
 
     ghost Value = { Keys };
 
     ghost view = { λ t. t.keys.entries };
 
-    ghost invariant = { λ t. AreTriples t.keys.entries };
+    ghost invariant = { λ t. IsIndexed t.keys.entries t.index };
 }
 
 impl Tracked {
@@ -45,23 +50,52 @@ impl Tracked {
         ensures { result ≡ [] }
     {
         Tracked {
+            alloc,
             keys: IndexMap::new(alloc),
+            index: IndexMap::new(alloc),
         }
     }
 
-    /// Puts a face in. After Memory nothing changed.
+    /// Puts a face in. After Memory, which is also the answer where no more keys can be counted, nothing
+    /// changed.
     pub fn add(&mut self, f: Face) -> Result<Added, Memory>
         requires { Rises f.0 }
         ensures answer { IfOk result (λ a. a ≡ added_for (state_of f self.old)) }
         ensures ok { OnOk result (self.new ≡ put f true self.old) }
         ensures err { OnErr result (self.new ≡ self.old) }
     {
+        match self.keys.get(&f).copied() {
+            None => {
+                self.make(f)?;
+                Ok(Added::New)
+            }
+            Some(true) => Ok(Added::Already),
+            Some(false) => {
+                self.put_back(f);
+                Ok(Added::Restored)
+            }
+        }
+    }
+
+    /// Makes a key that is in. After Memory nothing changed.
+    fn make(&mut self, f: Face) -> Result<(), Memory>
+        requires rises { Rises f.0 }
+        requires absent { state_of f self.old ≡ None }
+        ensures ok { OnOk result (self.new ≡ put f true self.old) }
+        ensures err { OnErr result (self.new ≡ self.old) }
+    {
         let [a, b, c] = f.0;
         prove!(a < b && b < c);
-        let Ok(before) = self.keys.insert(f, true) else {
+        let place = self.keys();
+        if place == u32::MAX {
+            return Err(Memory);
+        }
+        index::enter(self.alloc, &mut self.index, &f.0, place)?;
+        let Ok(_) = self.keys.insert(f, true) else {
+            index::leave_last(&mut self.index, &f.0);
             return Err(Memory);
         };
-        Ok(found(before))
+        Ok(())
     }
 
     /// Takes out a face that is in.
@@ -91,7 +125,9 @@ impl Tracked {
         requires { 0 < length self.old }
         ensures { self.new ≡ take (length self.old - 1) self.old }
     {
-        let _ = self.keys.pop();
+        if let Some((face, _)) = self.keys.pop() {
+            index::leave_last(&mut self.index, &face.0);
+        }
     }
 
     /// Whether a face is in.
@@ -104,14 +140,59 @@ impl Tracked {
         }
     }
 
+    /// How many keys there are.
+    pub fn keys(&self) -> u32
+        ensures { result ≡ length self.now }
+    {
+        self.keys.len() as u32
+    }
+
+    /// The key at a place, counted from 0 in the order made.
+    pub fn key(&self, place: u32) -> Face
+        requires { place < length self.now }
+        ensures { result ≡ (entry_at self.now place).0 }
+    {
+        match self.keys.get_index(place as usize) {
+            Some((face, _)) => *face,
+            None => unreachable!(),
+        }
+    }
+
+    /// Whether the key at a place is in.
+    pub fn is_in(&self, place: u32) -> bool
+        requires { place < length self.now }
+        ensures { result ≡ (entry_at self.now place).1 }
+    {
+        match self.keys.get_index(place as usize) {
+            Some((_, is_in)) => *is_in,
+            None => unreachable!(),
+        }
+    }
+
+    /// Makes `into` the tracked faces that have u, in the order in which their keys were made. After
+    /// Memory nothing is said of it.
+    pub fn at_point(&self, u: u32, into: &mut Vec<Face>) -> Result<(), Memory>
+        ensures { OnOk result (into.new.items ≡ faces_at self.now u) }
+    {
+        into.clear();
+        let places = self.places(u);
+        for place in places {
+            if self.is_in(*place) {
+                into.push(self.key(*place))?;
+            }
+        }
+        Ok(())
+    }
+
     /// How many tracked faces have both u and v.
     pub fn count2(&self, u: u32, v: u32) -> u32
         requires { u ≢ v }
         ensures { result ≡ triples_at (triples_of (faces_in self.now)) u v }
     {
+        let places = self.places(u);
         let mut count = 0;
-        for (face, is_in) in self.keys.iter() {
-            if *is_in && has_corner(face, u) && has_corner(face, v) {
+        for place in places {
+            if self.is_in(*place) && has_corner(&self.key(*place), v) {
                 count += 1;
             }
         }
@@ -122,12 +203,22 @@ impl Tracked {
     pub fn is_rim(&self, u: u32) -> bool
         ensures { IsTrue result ↔ IsRim (triples_of (faces_in self.now)) u }
     {
-        for (face, is_in) in self.keys.iter() {
-            if *is_in && has_corner(face, u) && self.has_rim_edge(face, u) {
+        let places = self.places(u);
+        for place in places {
+            if self.is_in(*place) && self.has_rim_edge(&self.key(*place), u) {
                 return true;
             }
         }
         false
+    }
+
+    /// The places of the keys that have u.
+    fn places(&self, u: u32) -> &[u32]
+        ensures value { result.now ≡ places_of u 0 self.now }
+        ensures within { All (λ i. i < length self.now) result.now }
+        ensures few { length result.now < 2 ^ 32 }
+    {
+        index::find(&self.index, u)
     }
 
     /// Whether u and another corner are in exactly one tracked face.
@@ -169,61 +260,9 @@ impl Tracked {
     }
 }
 
-fn found(before: Option<bool>) -> Added
-    ensures { result ≡ added_for before }
-{
-    match before {
-        None => Added::New,
-        Some(true) => Added::Already,
-        Some(false) => Added::Restored,
-    }
-}
-
 fn has_corner(face: &Face, u: u32) -> bool
     ensures { result ≡ has face.now.0 u }
 {
     let Face([a, b, c]) = *face;
     a == u || b == u || c == u
-}
-
-#[cfg(test)]
-mod tests {
-    use super::*;
-    use std::test::Fail;
-
-    #[test]
-    fn puts_a_face_in_and_out(rt: HostRuntime) -> Result<(), Fail> {
-        let mut tracked = Tracked::new(rt.alloc());
-        let face = Face([0, 1, 3]);
-        assert_eq!(rt; tracked.add(face)?, Added::New);
-        assert_eq!(rt; tracked.add(face)?, Added::Already);
-        assert!(rt; tracked.has(face));
-        tracked.take_out(face);
-        assert!(rt; !tracked.has(face));
-        assert_eq!(rt; tracked.add(face)?, Added::Restored);
-        tracked.take_out(face);
-        tracked.put_back(face);
-        assert!(rt; tracked.has(face));
-        tracked.drop_last();
-        assert!(rt; !tracked.has(face));
-        Ok(())
-    }
-
-    #[test]
-    fn counts_and_lists(rt: HostRuntime) -> Result<(), Fail> {
-        let mut tracked = Tracked::new(rt.alloc());
-        let _ = tracked.add(Face([1, 2, 3]))?;
-        let _ = tracked.add(Face([0, 1, 3]))?;
-        assert_eq!(rt; tracked.count2(1, 3), 2);
-        assert_eq!(rt; tracked.count2(3, 0), 1);
-        assert_eq!(rt; tracked.count2(0, 2), 0);
-        assert!(rt; tracked.is_rim(3));
-        assert!(rt; !tracked.is_rim(4));
-        let faces = tracked.list(rt.alloc())?;
-        assert_eq!(rt;
-            faces.as_slice(),
-            [Face([0, 1, 3]), Face([1, 2, 3])].as_slice()
-        );
-        Ok(())
-    }
 }

@@ -1,9 +1,8 @@
-use Rattle.std.proofs.Common.{◌≡◌, ◌+◌}
-use Rattle.grid.specs.Rims.{triples_at}
-use Rattle.grid.specs.Views.{triples_of}
-use Rattle.tracked.specs.Keys.{faces_in}
+use Rattle.std.proofs.Common.{◌≡◌, ◌≤◌, ◌&&◌, count_by, take}
+use Rattle.grid.specs.Simplices.{has}
+use Rattle.tracked.specs.Keys.{entry_at}
 use Rattle.tracked.proofs.table.Tracked.count2.Given as goal
 
-abbrev pub invariant-loop-face : goal.invariant-loop-face
-invariant-loop-face l =
-    l.count + triples_at (triples_of (faces_in l.face-iterator)) l.u l.v ≡ triples_at (triples_of (faces_in l.self)) l.u l.v
+abbrev pub invariant-loop-place : goal.invariant-loop-place
+invariant-loop-place l =
+    (l.count ≤ l.place-index) × (l.count ≡ count_by (λ i. (entry_at l.self i).1 && has (entry_at l.self i).0.0 l.v) (take l.place-index l.places))

@@ -1,12 +1,10 @@
-use Rattle.std.proofs.Common.{◌≡◌, ◌&&◌}
+use Rattle.std.proofs.Common.{◌≡◌, ◌&&◌, false, take}
 use Rattle.std.specs.List.{list_any}
-use Rattle.grid.specs.Simplices.{has}
 use Rattle.grid.specs.Views.{triples_of}
-use Rattle.tracked.specs.Keys.{faces_in}
+use Rattle.tracked.specs.Keys.{entry_at, faces_in}
 use Rattle.tracked.specs.RimEdges.{has_rim_edge}
 use Rattle.tracked.proofs.table.Tracked.is_rim.Given as goal
 
-abbrev pub invariant-loop-face : goal.invariant-loop-face
-invariant-loop-face l =
-    list_any (λ t. has t l.u && has_rim_edge (triples_of (faces_in l.self)) l.u t) (triples_of (faces_in l.face-iterator))
-    ≡ list_any (λ t. has t l.u && has_rim_edge (triples_of (faces_in l.self)) l.u t) (triples_of (faces_in l.self))
+abbrev pub invariant-loop-place : goal.invariant-loop-place
+invariant-loop-place l =
+    list_any (λ i. (entry_at l.self i).1 && has_rim_edge (triples_of (faces_in l.self)) l.u (entry_at l.self i).0.0) (take l.place-index l.places) ≡ false

@@ -1,10 +1,7 @@
-use Rattle.std.proofs.Common.{◌^◌, true, false}
-use Rattle.grid.specs.Meshes.{IsTriple}
-use Rattle.tracked.proofs.KeyFacts.{All-key, All-put}
+use Rattle.std.proofs.Common.{true, false}
+use Rattle.tracked.proofs.IndexLemmas.{indexed-put}
 use Rattle.tracked.proofs.table.Tracked.put_back.Goals as goal
 
 pub invariant_of-self : goal.invariant_of-self
 invariant_of-self c =
-    rw c.in-Ok.ensures.entries
-    (All-put (IsTriple (2 ^ 32)) c.args.f true c.self.inside.keys.entries
-    (All-key (IsTriple (2 ^ 32)) c.args.f false c.self.inside.keys.entries (rw (← c.self.view_is) at c.requires) c.self.invariant) c.self.invariant)
+    rw c.in-Ok.ensures.entries (indexed-put c.args.f true false c.self.inside.keys.entries c.self.inside.index (rw (← c.self.view_is) at c.requires) c.self.invariant)
