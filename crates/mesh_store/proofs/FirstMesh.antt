@@ -22,7 +22,7 @@ use Rattle.tracked.specs.Keys.{Keys, same_face, state_of, put, faces_in}
 use Rattle.tracked.proofs.KeyLemmas.{put-new}
 use Rattle.mesh_store.specs.Parts.{live_slot, mesh_in, parts_from}
 use Rattle.mesh_store.specs.Sound.{IsSound, IsFirstMesh}
-use Rattle.mesh_store.proofs.SlotSplits.{live-made}
+use Rattle.mesh_store.proofs.LiveSlots.{live-made}
 
 abbrev all_in : List Face → Keys
 all_in faces = map (λ f. (f, true)) faces

@@ -23,14 +23,14 @@ use Rattle.mesh_store.specs.Sound.{IsSound}
 use Rattle.mesh_store.specs.Changes.{HasSameSlots, IsGrown, IsRefined, all_put, face_of, face_put, slots_split, triple_pieces}
 use Rattle.mesh_store.proofs.KeySets.{is_in-all_put, tracked-triples}
 use Rattle.mesh_store.proofs.PieceLemmas.{edges_of}
-use Rattle.mesh_store.proofs.SlotSplits.{split-length, split-live, split-tet, split-killed}
+use Rattle.mesh_store.proofs.LiveSlots.{split-length, split-live, split-tet, split-killed}
 
 -- ---- sound parts stand for a well-formed mesh
 each-live : (n : ℕ) (x : List ℕ) (xs : List (List ℕ)) (b : Bool) → IsTet n x → Each (IsTet n) xs → Each (IsTet n) (cond b (x ∷ xs) xs)
 each-live n x xs true h g = (h, g)
 each-live n x xs false h g = g
 
-live-tets : (n : ℕ) (slots : List Slot) → Each (λ (s : Slot). IsTet n s.tet.0) slots → Each (IsTet n) (live_tets slots)
+pub live-tets : (n : ℕ) (slots : List Slot) → Each (λ (s : Slot). IsTet n s.tet.0) slots → Each (IsTet n) (live_tets slots)
 live-tets n [] h = tt
 live-tets n (s ∷ slots) h = each-live n s.tet.0 (live_tets slots) s.live h.0 (live-tets n slots h.1)
 

@@ -15,6 +15,7 @@ use Rattle.tracked.proofs.KeyLemmas.{put-same, put-back, state-put, put-new}
 use Rattle.mesh_store.specs.Parts.{Parts, live_slot}
 use Rattle.mesh_store.specs.Sound.{IsSound}
 use Rattle.mesh_store.specs.Changes.{with_parts, point_made, tet_made, slot_killed, face_put}
+use Rattle.mesh_store.specs.Forgetting.{CanForget}
 use Rattle.mesh_store.specs.Undoing.{front, undone, all_undone, CanUndo, CanUndoAll, LeaveSound, track_marks}
 use Rattle.mesh_store.specs.Store.{parts_now, begun, store_view, IsUndoable}
 use Rattle.mesh_store.specs.declared.store.Store.TheInside.{Inside}
@@ -102,6 +103,7 @@ pub record IsMarked (s t : Inside) (more : List Mark) (m : Parts) : Type 0 where
   pub parts_are : parts_now t ≡ m
   pub back : LeadBack (parts_now s) more m
   pub sound : IsSound s.side m
+  pub forget : CanForget s.undo s.slots → CanForget (s.undo ++ more) t.slots
   pub undo_is : t.undo ≡ s.undo ++ more
   pub opened_is : t.opened ≡ s.opened
   pub side_is : t.side ≡ s.side
@@ -116,6 +118,7 @@ marked-keeps s t more m marked h opened =
     record {
       can = rw (marked.parts_are, marked.undo_is) (marked.back.can s.undo h.can);
       leave = rw (marked.parts_are, marked.undo_is, marked.side_is) (marked.back.leave s.side s.undo h.leave h.sound);
+      forget = rw marked.undo_is (marked.forget h.forget);
       none = λ closed. cc (marked.opened_is, was, closed);
       sound = rw (marked.parts_are, marked.side_is) marked.sound;
     }

@@ -24,6 +24,10 @@ pub record IsGrown (old new : Parts) : Type 0 where
   pub tets : (i : ℕ) → i < length old.slots → (slot_at new.slots i).tet ≡ (slot_at old.slots i).tet
   pub killed : (i : ℕ) → i < length old.slots → (slot_at old.slots i).live ≡ false → (slot_at new.slots i).live ≡ false
 
+-- the slots that were added are live
+pub record AddedAreLive (old new : Parts) : Type 0 where
+  pub live : (i : ℕ) → length old.slots ≤ i → i < length new.slots → (slot_at new.slots i).live ≡ true
+
 -- the points, the slots and their live flags stay
 pub record HasSameSlots (old new : Parts) : Type 0 where
   pub points : new.points ≡ old.points
@@ -61,9 +65,13 @@ all_put (t ∷ ts) m = all_put ts (face_put (face_of t) true m)
 abbrev pub points_made : List Cut → Parts → Parts
 points_made cuts m = record m { points = m.points ++ map (λ e. e.at) cuts }
 
--- a live slot that a cut touches is killed
-abbrev pub killed_if_touched : List Cut → Slot → Slot
-killed_if_touched cuts s = record { tet = s.tet; live = s.live && not (is_touched cuts s.tet.0) }
+-- a live slot whose tetrahedron passes is killed
+abbrev pub killed_if : (List ℕ → Bool) → Slot → Slot
+killed_if passes s = record { tet = s.tet; live = s.live && not (passes s.tet.0) }
+
+-- a live slot that a cut touches
+abbrev pub is_split : List Cut → Slot → Bool
+is_split cuts s = s.live && is_touched cuts s.tet.0
 
 -- the pieces of the live slots that a cut touches, in order
 abbrev pub slot_pieces : List Cut → ℕ → List Slot → List (List ℕ)
@@ -71,27 +79,19 @@ slot_pieces cuts k slots = flat_map (sub_all k cuts) (filter (is_touched cuts) (
 
 -- the touched slots are killed, and their pieces are made after the last
 abbrev pub slots_split : List Cut → ℕ → List Slot → List Slot
-slots_split cuts k slots = map (killed_if_touched cuts) slots ++ map live_slot (slot_pieces cuts k slots)
-
--- one slot is killed and its pieces are made, if it is live and a cut touches it
-abbrev pub slot_split : List Cut → ℕ → ℕ → List Slot → List Slot
-slot_split cuts k i slots =
-    cond ((slot_at slots i).live && is_touched cuts (slot_at slots i).tet.0) (with_live false i slots ++ map live_slot (sub_all k cuts (slot_at slots i).tet.0)) slots
+slots_split cuts k slots = map (killed_if (is_touched cuts)) slots ++ map live_slot (slot_pieces cuts k slots)
 
 -- the pieces of tracked triples
 abbrev pub triple_pieces : List Cut → ℕ → List (List ℕ) → List (List ℕ)
 triple_pieces cuts k triples = map rising (flat_map (sub_all k cuts) triples)
 
--- a tracked face is taken out and its pieces are put in, if a cut touches it
-abbrev pub face_split : List Cut → ℕ → List ℕ → Parts → Parts
-face_split cuts k t m = cond (is_touched cuts t) (all_put (triple_pieces cuts k (t ∷ [])) (face_put (face_of t) false m)) m
-
--- the pieces of the tracked faces are tracked, and nothing else changes
-pub record TracksPieces (cuts : List Cut) (k : ℕ) (old new : Parts) : Type 0 where
-  pub same : HasSameSlots old new
+-- the slots and the tracked triples are split
+pub record IsSplit (cuts : List Cut) (k : ℕ) (old new : Parts) : Type 0 where
+  pub points : new.points ≡ old.points
+  pub slots : new.slots ≡ slots_split cuts k old.slots
   pub faces : (t : List ℕ) → is_in (face_of t) new.keys ≡ list_any (bytes_eq t) (triple_pieces cuts k (tracked_in old.keys))
 
--- the points of the cuts are made, the slots are split and then the tracked faces
+-- the points of the cuts are made, and the slots and the tracked triples are split
 pub record IsRefined (cuts : List Cut) (old new : Parts) : Type 0 where
   pub points : new.points ≡ old.points ++ map (λ e. e.at) cuts
   pub slots : new.slots ≡ slots_split cuts (length old.points) old.slots

@@ -2,6 +2,7 @@
 use Rattle.std.specs.Prelude.{◌≡◌, Bool, false, cond, Option, None, Some, []}
 use Rattle.mesh_store.specs.declared.store.Store.TheInside.{Inside}
 use Rattle.mesh_store.specs.Parts.{Parts, StoreView, parts_of}
+use Rattle.mesh_store.specs.Forgetting.{CanForget}
 use Rattle.mesh_store.specs.Sound.{IsSound}
 use Rattle.mesh_store.specs.Undoing.{all_undone, CanUndoAll, LeaveSound}
 
@@ -15,9 +16,10 @@ begun opened m = cond opened (Some m) None
 abbrev pub store_view : Inside → StoreView
 store_view s = record { parts = parts_now s; at_begin = begun s.opened (all_undone s.undo (parts_now s)); side = s.side }
 
--- the marks can be undone, last first, and leave sound parts; a closed store has none
+-- the marks can be undone, last first, and leave sound parts, and the slots that they say were killed can be forgotten; a closed store has none
 pub record IsUndoable (s : Inside) : Type 0 where
   pub can : CanUndoAll s.undo (parts_now s)
   pub leave : LeaveSound s.side s.undo (parts_now s)
+  pub forget : CanForget s.undo s.slots
   pub none : s.opened ≡ false → s.undo ≡ []
   pub sound : IsSound s.side (parts_now s)

@@ -3,7 +3,7 @@ ghost use Rattle.grid.specs.Meshes.{IsTriple, Ordered, most_made, most_points};
 ghost use Rattle.grid.specs.Simplices.{IsTet};
 ghost use Rattle.grid.specs.Views.{corners_of, triples_of};
 ghost use Rattle.mesh_store.specs.Parts.{live_slot};
-ghost use Rattle.std.specs.Prelude.{All, IfOk, length, map, true, ◌≡◌, ◌≤◌};
+ghost use Rattle.std.specs.Prelude.{All, IfOk, false, length, map, true, ◌≡◌, ◌≤◌};
 
 use grid::{Face, Memory};
 use mesh_types::Lists;
@@ -16,7 +16,7 @@ pub(crate) fn filled(alloc: Global, mesh: &Lists) -> Result<Slots, Memory>
     requires points_few { length mesh.now.points ≤ most_points }
     requires tets_few { length mesh.now.tets ≤ most_made }
     requires corners { All (λ t. IsTet (length mesh.now.points) t.0) mesh.now.tets }
-    ensures { IfOk result (λ s. s ≡ record { points = mesh.now.points; slots = map live_slot (corners_of mesh.now.tets) }) }
+    ensures { IfOk result (λ s. s ≡ record { points = mesh.now.points; slots = map live_slot (corners_of mesh.now.tets); forgotten = map (λ _. false) mesh.now.tets }) }
 {
     let mut slots = Slots::new(alloc);
     for point in mesh.points.as_slice() {

@@ -5,7 +5,11 @@
 mod filling;
 mod issue;
 mod listing;
+mod planning;
+mod splitting;
 mod store;
+mod swapping;
+mod touching;
 mod undoing;
 
 pub use issue::StoreIssue;

@@ -1,22 +1,26 @@
 ghost use Rattle.grid.specs.Boxes.{IsInBox};
 ghost use Rattle.grid.specs.Meshes.{IsTriple, IsWithinLimits};
 ghost use Rattle.grid.specs.Views.{triples_of};
-ghost use Rattle.mesh_store.specs.Changes.{HasSameSlots, IsGrown, IsSameTransaction};
+ghost use Rattle.mesh_store.specs.Changes.{AddedAreLive, HasSameSlots, IsGrown, IsSameTransaction};
 ghost use Rattle.mesh_store.specs.Parts.{mesh_in, parts_from, rolled_back};
 ghost use Rattle.mesh_store.specs.Sound.{IsFirstMesh, IsSound};
 ghost use Rattle.mesh_types.specs.CutLists.{AreCuts};
 ghost use Rattle.mesh_types.specs.Refines.{refine};
+ghost use Rattle.mesh_types.specs.Results.{collapse, edge_swap, face_swap, shift};
 ghost use Rattle.mesh_types.specs.Tracking.{with_tracked};
 ghost use Rattle.mesh_types.specs.Views.{mesh_of};
-ghost use Rattle.std.specs.Prelude.{All, Err, IfOk, IsSome, IsTrue, None, OnErr, OnOk, Some, length, nat_abs, ◌≡◌, ◌↔◌};
+ghost use Rattle.std.specs.Prelude.{All, Err, IfOk, IsSome, IsTrue, None, OnErr, OnOk, Some, length, nat_abs, ◌<◌, ◌≡◌, ◌≢◌, ◌↔◌};
 
+mod exchanging;
+mod moving;
 mod refining;
 mod steps;
+mod swaps;
 mod tracking;
 
 use crate::issue::StoreIssue;
 use crate::{filling, listing, undoing};
-use grid::{Face, Memory};
+use grid::{Face, Memory, Point};
 use items::Items;
 use mesh_types::{Cut, Lists};
 use std::alloc::Global;
@@ -91,6 +95,7 @@ impl Store {
         requires in_box { All (λ e. IsInBox (nat_abs self.old.side) e.at) cuts.now }
         ensures mesh { OnOk result (mesh_in self.new.parts ≡ refine (mesh_in self.old.parts) cuts.now) }
         ensures grown { OnOk result (IsGrown self.old.parts self.new.parts) }
+        ensures added { OnOk result (AddedAreLive self.old.parts self.new.parts) }
         ensures goes_on { OnOk result (IsSameTransaction self.old self.new) }
         ensures within { OnOk result (IsWithinLimits (mesh_in self.new.parts)) }
         ensures full { result ≡ Err StoreIssue.Full → ¬ IsWithinLimits (refine (mesh_in self.old.parts) cuts.now) }
@@ -99,6 +104,121 @@ impl Store {
         // The type says what holds of the fields before and after.
         let _ = &self.opened;
         match self.refine_open(cuts) {
+            Ok(()) => {
+                let _ = &self.opened;
+                Ok(())
+            }
+            Err(issue) => {
+                self.rollback();
+                Err(issue)
+            }
+        }
+    }
+
+    /// Makes a point and puts it in place of u in every tetrahedron and tracked face that has u.
+    /// Refused where a limit would be passed, and then the mesh is the one at begin and the store is
+    /// closed, as after want of memory.
+    pub fn shift(&mut self, u: u32, at: Point) -> Result<(), StoreIssue>
+        requires open { IsSome self.old.at_begin }
+        requires there { u < length self.old.parts.points }
+        requires in_box { IsInBox (nat_abs self.old.side) at }
+        ensures mesh { OnOk result (mesh_in self.new.parts ≡ (shift (mesh_in self.old.parts) u at).mesh) }
+        ensures grown { OnOk result (IsGrown self.old.parts self.new.parts) }
+        ensures added { OnOk result (AddedAreLive self.old.parts self.new.parts) }
+        ensures goes_on { OnOk result (IsSameTransaction self.old self.new) }
+        ensures within { OnOk result (IsWithinLimits (mesh_in self.new.parts)) }
+        ensures full { result ≡ Err StoreIssue.Full → ¬ IsWithinLimits (shift (mesh_in self.old.parts) u at).mesh }
+        ensures err { OnErr result (self.new ≡ rolled_back self.old) }
+    {
+        // The type says what holds of the fields before and after.
+        let _ = &self.opened;
+        match self.shift_open(u, at) {
+            Ok(()) => {
+                let _ = &self.opened;
+                Ok(())
+            }
+            Err(issue) => {
+                self.rollback();
+                Err(issue)
+            }
+        }
+    }
+
+    /// Edge collapse: puts v in place of u in every tetrahedron and tracked face that has u, and
+    /// takes away those that have both. Refused where a limit would be passed, and then the mesh is
+    /// the one at begin and the store is closed, as after want of memory.
+    pub fn collapse(&mut self, u: u32, v: u32) -> Result<(), StoreIssue>
+        requires open { IsSome self.old.at_begin }
+        requires u_there { u < length self.old.parts.points }
+        requires v_there { v < length self.old.parts.points }
+        requires differ { u ≢ v }
+        ensures mesh { OnOk result (mesh_in self.new.parts ≡ (collapse (mesh_in self.old.parts) u v).mesh) }
+        ensures grown { OnOk result (IsGrown self.old.parts self.new.parts) }
+        ensures added { OnOk result (AddedAreLive self.old.parts self.new.parts) }
+        ensures goes_on { OnOk result (IsSameTransaction self.old self.new) }
+        ensures within { OnOk result (IsWithinLimits (mesh_in self.new.parts)) }
+        ensures full { result ≡ Err StoreIssue.Full → ¬ IsWithinLimits (collapse (mesh_in self.old.parts) u v).mesh }
+        ensures err { OnErr result (self.new ≡ rolled_back self.old) }
+    {
+        // The type says what holds of the fields before and after.
+        let _ = &self.opened;
+        match self.collapse_open(u, v) {
+            Ok(()) => {
+                let _ = &self.opened;
+                Ok(())
+            }
+            Err(issue) => {
+                self.rollback();
+                Err(issue)
+            }
+        }
+    }
+
+    /// Face swap (2-3): the two tetrahedra on the sides of the face become three round the edge between
+    /// their fourth corners. Nothing changes where there are no such two. Refused where a limit would
+    /// be passed, and then the mesh is the one at begin and the store is closed, as after want of
+    /// memory.
+    pub fn swap23(&mut self, a: u32, b: u32, c: u32) -> Result<(), StoreIssue>
+        requires open { IsSome self.old.at_begin }
+        ensures mesh { OnOk result (mesh_in self.new.parts ≡ (face_swap (mesh_in self.old.parts) a b c).mesh) }
+        ensures grown { OnOk result (IsGrown self.old.parts self.new.parts) }
+        ensures added { OnOk result (AddedAreLive self.old.parts self.new.parts) }
+        ensures goes_on { OnOk result (IsSameTransaction self.old self.new) }
+        ensures within { OnOk result (IsWithinLimits (mesh_in self.new.parts)) }
+        ensures full { result ≡ Err StoreIssue.Full → ¬ IsWithinLimits (face_swap (mesh_in self.old.parts) a b c).mesh }
+        ensures err { OnErr result (self.new ≡ rolled_back self.old) }
+    {
+        // The type says what holds of the fields before and after.
+        let _ = &self.opened;
+        match self.swap23_open(a, b, c) {
+            Ok(()) => {
+                let _ = &self.opened;
+                Ok(())
+            }
+            Err(issue) => {
+                self.rollback();
+                Err(issue)
+            }
+        }
+    }
+
+    /// Edge swap (3-2): the tetrahedra at the edge become two on the sides of a face. Nothing changes
+    /// where the others at the edge have no corner that the first has not. Refused where a limit would
+    /// be passed, and then the mesh is the one at begin and the store is closed, as after want of
+    /// memory.
+    pub fn swap32(&mut self, u: u32, v: u32) -> Result<(), StoreIssue>
+        requires open { IsSome self.old.at_begin }
+        ensures mesh { OnOk result (mesh_in self.new.parts ≡ (edge_swap (mesh_in self.old.parts) u v).mesh) }
+        ensures grown { OnOk result (IsGrown self.old.parts self.new.parts) }
+        ensures added { OnOk result (AddedAreLive self.old.parts self.new.parts) }
+        ensures goes_on { OnOk result (IsSameTransaction self.old self.new) }
+        ensures within { OnOk result (IsWithinLimits (mesh_in self.new.parts)) }
+        ensures full { result ≡ Err StoreIssue.Full → ¬ IsWithinLimits (edge_swap (mesh_in self.old.parts) u v).mesh }
+        ensures err { OnErr result (self.new ≡ rolled_back self.old) }
+    {
+        // The type says what holds of the fields before and after.
+        let _ = &self.opened;
+        match self.swap32_open(u, v) {
             Ok(()) => {
                 let _ = &self.opened;
                 Ok(())
@@ -139,7 +259,7 @@ impl Store {
         requires { IsSome self.old.at_begin }
         ensures { self.new ≡ record self.old { at_begin = None } }
     {
-        self.undo.clear();
+        undoing::forget_killed(&mut self.slots, &mut self.undo);
         self.opened = false;
     }
 

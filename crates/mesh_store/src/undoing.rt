@@ -1,8 +1,10 @@
-// Undoing: one mark, and all of them, last first.
+// The end of a transaction: undoing the marks, last first, or forgetting the slots that they name.
 ghost use Rattle.grid.specs.Simplices.{Rises};
+ghost use Rattle.mesh_store.specs.Forgetting.{CanForget, CanRevive, IsForgettable, kills, slots_forgotten, slots_undone};
 ghost use Rattle.mesh_store.specs.Parts.{parts_of};
 ghost use Rattle.mesh_store.specs.Undoing.{CanUndo, CanUndoAll, all_undone, track_marks, undone};
-ghost use Rattle.std.specs.Prelude.{OnErr, OnOk, [], true, ◌++◌, ◌≡◌};
+ghost use Rattle.std.specs.Prelude.{OnErr, OnOk, [], true, ℕ, ◌++◌, ◌<◌, ◌∷◌, ◌≡◌};
+ghost use Rattle.tet_slots.specs.Slots.{is_forgotten};
 ghost use Rattle.tracked.specs.Keys.{put, state_of};
 
 use grid::{Face, Memory};
@@ -12,8 +14,10 @@ use undo_record::{Mark, Undo};
 
 /// Undoes one mark.
 pub(crate) fn undo_mark(slots: &mut Slots, tracked: &mut Tracked, mark: Mark)
-    requires { CanUndo mark (parts_of slots.old tracked.old) }
-    ensures { parts_of slots.new tracked.new ≡ undone mark (parts_of slots.old tracked.old) }
+    requires can { CanUndo mark (parts_of slots.old tracked.old) }
+    requires known { CanRevive (mark ∷ []) slots.old }
+    ensures parts { parts_of slots.new tracked.new ≡ undone mark (parts_of slots.old tracked.old) }
+    ensures slots { slots.new ≡ slots_undone mark slots.old }
 {
     match mark {
         Mark::PointMade => slots.drop_point(),
@@ -27,12 +31,39 @@ pub(crate) fn undo_mark(slots: &mut Slots, tracked: &mut Tracked, mark: Mark)
 
 /// Undoes the marks, last first, and leaves none.
 pub(crate) fn undo_marks(slots: &mut Slots, tracked: &mut Tracked, undo: &mut Undo)
-    requires { CanUndoAll undo.old (parts_of slots.old tracked.old) }
+    requires can { CanUndoAll undo.old (parts_of slots.old tracked.old) }
+    requires known { CanRevive undo.old slots.old }
     ensures parts { parts_of slots.new tracked.new ≡ all_undone undo.old (parts_of slots.old tracked.old) }
+    ensures known { CanRevive [] slots.new }
     ensures none { undo.new ≡ [] }
 {
     while let Some(mark) = undo.pop() {
         undo_mark(slots, tracked, mark);
+    }
+}
+
+/// Forgets the slots that the marks say were killed, and leaves no marks.
+pub(crate) fn forget_killed(slots: &mut Slots, undo: &mut Undo)
+    requires { CanForget undo.old slots.old }
+    ensures points { slots.new.points ≡ slots.old.points }
+    ensures slots { slots.new.slots ≡ slots.old.slots }
+    ensures forgotten { (i : ℕ) → 0 < kills i undo.old → is_forgotten slots.new.forgotten i ≡ true }
+    ensures known { CanForget [] slots.new }
+    ensures none { undo.new ≡ [] }
+{
+    while let Some(mark) = undo.pop() {
+        forget_marked(slots, mark);
+    }
+}
+
+/// Forgets the slot that the mark says was killed, if it says so.
+fn forget_marked(slots: &mut Slots, mark: Mark)
+    requires { IsForgettable mark slots.old }
+    ensures { slots.new ≡ slots_forgotten mark slots.old }
+{
+    match mark {
+        Mark::Killed(slot) => slots.forget(slot),
+        Mark::PointMade | Mark::TetMade | Mark::FaceNew | Mark::FaceIn(_) | Mark::FaceOut(_) => {}
     }
 }
 

@@ -1,4 +1,4 @@
-ghost use Rattle.std.specs.Prelude.{IfOk, None, length, pos, ◌≡◌};
+ghost use Rattle.std.specs.Prelude.{IfOk, IsSome, None, length, pos, ◌≡◌};
 
 use super::*;
 use grid::{Point, Tet};
@@ -43,9 +43,11 @@ fn cube(alloc: Global) -> Result<Store, Memory>
     Store::new(alloc, &mesh, 16)
 }
 
-#[test]
-fn refines_and_rolls_back(rt: HostRuntime) -> Result<(), Fail> {
-    let alloc = rt.alloc();
+/// The cube, open, with its edge from 0 to 7 split at the middle.
+fn split_cube(alloc: Global) -> Result<Store, StoreIssue>
+    ensures open { IfOk result (λ s. IsSome s.at_begin) }
+    ensures side { IfOk result (λ s. s.side ≡ pos 16) }
+{
     let mut store = cube(alloc)?;
     store.begin();
     let cuts = [Cut {
@@ -54,55 +56,19 @@ fn refines_and_rolls_back(rt: HostRuntime) -> Result<(), Fail> {
         at: point(8, 8, 8),
     }];
     store.refine(&cuts)?;
-    let refined = store.lists(alloc)?;
-    assert_eq!(rt; refined.points.len(), 9);
-    assert_eq!(rt; refined.made, 18);
-    let pieces = [
-        Tet([8, 1, 3, 7]),
-        Tet([0, 1, 3, 8]),
-        Tet([8, 5, 1, 7]),
-        Tet([0, 5, 1, 8]),
-        Tet([8, 3, 2, 7]),
-        Tet([0, 3, 2, 8]),
-        Tet([8, 2, 6, 7]),
-        Tet([0, 2, 6, 8]),
-        Tet([8, 4, 5, 7]),
-        Tet([0, 4, 5, 8]),
-        Tet([8, 6, 4, 7]),
-        Tet([0, 6, 4, 8]),
-    ];
-    assert_eq!(rt; refined.tets.as_slice(), pieces.as_slice());
+    Ok(store)
+}
+
+#[test]
+fn rolls_back(rt: HostRuntime) -> Result<(), Fail> {
+    let alloc = rt.alloc();
+    let mut store = split_cube(alloc)?;
     store.rollback();
     assert!(rt; !store.is_open());
     let before = store.lists(alloc)?;
     assert_eq!(rt; before.points.len(), 8);
     assert_eq!(rt; before.tets.len(), 6);
     assert_eq!(rt; before.made, 6);
-    Ok(())
-}
-
-#[test]
-fn splits_tracked_faces(rt: HostRuntime) -> Result<(), Fail> {
-    let alloc = rt.alloc();
-    let mut store = cube(alloc)?;
-    store.begin();
-    assert!(rt; store.is_open());
-    store.track(&[Face([0, 1, 3])])?;
-    let cuts = [Cut {
-        u: 0,
-        v: 1,
-        at: point(8, 0, 0),
-    }];
-    store.refine(&cuts)?;
-    let refined = store.lists(alloc)?;
-    assert_eq!(rt;
-        refined.tracked.as_slice(),
-        [Face([0, 3, 8]), Face([1, 3, 8])].as_slice()
-    );
-    store.rollback();
-    let before = store.lists(alloc)?;
-    assert_eq!(rt; before.tracked.len(), 0);
-    assert_eq!(rt; before.points.len(), 8);
     Ok(())
 }
 
@@ -117,5 +83,31 @@ fn commits(rt: HostRuntime) -> Result<(), Fail> {
     assert!(rt; !store.is_open());
     assert!(rt; store.tracked().has(Face([0, 1, 3])));
     assert_eq!(rt; store.slots().made(), 6);
+    Ok(())
+}
+
+#[test]
+fn shifts_a_point(rt: HostRuntime) -> Result<(), Fail> {
+    let alloc = rt.alloc();
+    let mut store = split_cube(alloc)?;
+    assert_eq!(rt; store.slots().points(), 9);
+    store.shift(8, point(8, 8, 9))?;
+    let shifted = store.lists(alloc)?;
+    assert_eq!(rt; shifted.points.len(), 10);
+    assert_eq!(rt; shifted.tets.len(), 12);
+    assert_eq!(rt; shifted.made, 30);
+    Ok(())
+}
+
+#[test]
+fn collapses_an_edge(rt: HostRuntime) -> Result<(), Fail> {
+    let alloc = rt.alloc();
+    let mut store = split_cube(alloc)?;
+    assert_eq!(rt; store.slots().points(), 9);
+    store.collapse(8, 0)?;
+    let collapsed = store.lists(alloc)?;
+    assert_eq!(rt; collapsed.points.len(), 9);
+    assert_eq!(rt; collapsed.tets.len(), 6);
+    assert_eq!(rt; collapsed.made, 24);
     Ok(())
 }

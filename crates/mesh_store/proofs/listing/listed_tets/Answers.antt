@@ -2,7 +2,7 @@ use Rattle.std.proofs.Common.{◌<◌, ◌∙◌, sym, ap, List, ℕ, ◌++◌, 
 use Rattle.std.proofs.lemmas.List.{take_more}
 use Rattle.tet_slots.specs.Slots.{slot_at, no_slot}
 use Rattle.mesh_store.specs.Parts.{live_tets}
-use Rattle.mesh_store.proofs.SlotSplits.{live-append}
+use Rattle.mesh_store.proofs.LiveSlots.{live-append}
 use Rattle.mesh_store.proofs.listing.listed_tets.Goals as goal
 
 pub loop-i-preserved : goal.loop-i-preserved

@@ -3,6 +3,7 @@ use Rattle.undo_record.specs.declared.mark.Mark.TheVariants.{PointMade}
 use Rattle.mesh_store.specs.Changes.{point_made}
 use Rattle.mesh_store.specs.Parts.{parts_of}
 use Rattle.mesh_store.specs.Store.{parts_now}
+use Rattle.mesh_store.proofs.Forgetting.{forget-point}
 use Rattle.mesh_store.proofs.SoundLemmas.{sound-point}
 use Rattle.mesh_store.proofs.Steps.{IsMarked, lead-one, back-point, can-point, marked-keeps, marked-view}
 use Rattle.mesh_store.proofs.store.Store.make_point.Goals as goal
@@ -13,6 +14,7 @@ step c = record {
   parts_are = ap (λ z. parts_of z c.self.inside.tracked) c.in-Ok.ensures.ok;
   back = lead-one _ _ _ (back-point c.args.p (parts_now c.self.inside)) (can-point c.args.p (parts_now c.self.inside) c.in-Ok.ensures.unused);
   sound = sound-point c.self.inside.side c.args.p (parts_now c.self.inside) (rw (← c.self.view_is) at c.requires.room) (rw (← c.self.view_is) at c.requires.in_box) c.self.invariant.sound;
+  forget = λ h. forget-point c.self.inside.undo c.self.inside.slots h c.args.p c.add_point.new.self c.in-Ok.ensures.ok;
   undo_is = c.in_ok-push.ensures.ok;
   opened_is = refl;
   side_is = refl;

@@ -3,6 +3,7 @@ use Rattle.undo_record.specs.declared.mark.Mark.TheVariants.{TetMade}
 use Rattle.mesh_store.specs.Changes.{tet_made}
 use Rattle.mesh_store.specs.Parts.{parts_of}
 use Rattle.mesh_store.specs.Store.{parts_now}
+use Rattle.mesh_store.proofs.Forgetting.{forget-tet}
 use Rattle.mesh_store.proofs.SoundLemmas.{sound-tet}
 use Rattle.mesh_store.proofs.Steps.{IsMarked, lead-one, back-tet, can-tet, marked-keeps, marked-view}
 use Rattle.mesh_store.proofs.store.Store.make_tet.Goals as goal
@@ -13,6 +14,7 @@ step c = record {
   parts_are = ap (λ z. parts_of z c.self.inside.tracked) c.in-Ok.ensures.ok;
   back = lead-one _ _ _ (back-tet c.args.t.0 (parts_now c.self.inside)) (can-tet c.args.t.0 (parts_now c.self.inside));
   sound = sound-tet c.self.inside.side c.args.t.0 (parts_now c.self.inside) (rw (← c.self.view_is) at c.requires.room) (rw (← c.self.view_is) at c.requires.corners) c.self.invariant.sound;
+  forget = λ h. forget-tet c.self.inside.undo c.self.inside.slots h c.args.t c.add_tet.new.self c.in-Ok.ensures.ok;
   undo_is = c.in_ok-push.ensures.ok;
   opened_is = refl;
   side_is = refl;

@@ -1,11 +1,15 @@
-use Rattle.std.proofs.Common.{◌≡◌, ◌∙◌, sym, ap, subst, map, true, length, arith, rules, List, to_z, of_z, w32}
+use Rattle.std.proofs.Common.{◌≡◌, ◌∙◌, false, sym, ap, subst, map, true, length, arith, rules, List, to_z, of_z, w32}
+use Rattle.std.proofs.lemmas.List.{length-map}
 use Rattle.grid.specs.declared.shapes.Face.{Face}
 use Rattle.grid.specs.declared.shapes.Tet.{Tet}
 use Rattle.grid.specs.Meshes.{IsTriple}
 use Rattle.grid.specs.Simplices.{IsTet}
-use Rattle.mesh_store.specs.Parts.{parts_of, mesh_in, parts_from}
+use Rattle.grid.specs.Views.{corners_of}
+use Rattle.tet_slots.specs.Slots.{SlotLists}
+use Rattle.mesh_store.specs.Parts.{parts_of, mesh_in, parts_from, live_slot}
 use Rattle.mesh_store.specs.Sound.{IsSound}
 use Rattle.mesh_store.proofs.FirstMesh.{sound-first, mesh-first}
+use Rattle.mesh_store.proofs.Forgetting.{CanForget-none, CanRevive-none}
 use Rattle.mesh_store.proofs.PieceLemmas.{All-unmap}
 use Rattle.mesh_store.proofs.store.Store.new.Goals as goal
 use Rattle.mesh_store.proofs.store.Store.new.Goals.{After-new}
@@ -29,12 +33,19 @@ tracking-requires-clause-ordered c = rw c.as_slice.ensures c.requires.well_forme
 parts-are : (c : After-new) → parts_of c.in_ok-slots.slots c.in_ok-tracked.tracked ≡ parts_from c.args.mesh.now
 parts-are c = λ i. parts_of (c.in_ok-slots.ensures i) ((c.in_ok-tracked.ensures ∙ ap (λ (fs : List Face). map (λ f. (f, true)) fs) c.as_slice.ensures) i)
 
+one-each : (c : After-new) → length c.in_ok-slots.slots.forgotten ≡ length c.in_ok-slots.slots.slots
+one-each c =
+    let e = c.in_ok-slots.ensures in
+    let tets = c.args.mesh.now.tets in
+    ap (λ (s : SlotLists). length s.forgotten) e ∙ (length-map tets (λ _. false) ∙ (sym (length-map tets (λ (t : Tet). t.0)) ∙ (sym (length-map (corners_of tets) live_slot) ∙ ap (λ (s : SlotLists). length s.slots) (sym e))))
+
 pub invariant_of-result : goal.invariant_of-result
 invariant_of-result c =
     let side : to_z w32 (of_z w32 c.args.side) ≡ c.args.side = search rules in
     record {
       can = rw c.new.ensures tt;
       leave = rw c.new.ensures tt;
+      forget = rw c.new.ensures (CanForget-none c.in_ok-slots.slots (CanRevive-none c.in_ok-slots.slots (one-each c)));
       none = λ _. c.new.ensures;
       sound = rw side (subst (IsSound c.args.side) (sym (parts-are c)) (sound-first c.args.side c.args.mesh.now c.requires));
     }

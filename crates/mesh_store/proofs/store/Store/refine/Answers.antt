@@ -1,6 +1,7 @@
 use Rattle.std.proofs.Common.{subst}
 use Rattle.mesh_store.specs.Parts.{StoreView}
 use Rattle.mesh_store.specs.Sound.{IsSound}
+use Rattle.mesh_store.proofs.Added.{added-refined}
 use Rattle.mesh_store.proofs.MeshLemmas.{grown-refined, mesh-refined, within}
 use Rattle.mesh_store.proofs.store.Store.refine.Goals as goal
 
@@ -16,3 +17,6 @@ returns-in-Ok-clause-grown c = grown-refined c.args.cuts.now c.args.self.now.par
 
 pub returns-in-Ok-clause-within : goal.returns-in-Ok-clause-within
 returns-in-Ok-clause-within c = within c.refine_open.new.self.side c.refine_open.new.self.parts (subst (λ (v : StoreView). IsSound v.side v.parts) c.self-in-Ok.view_is c.self-in-Ok.invariant.sound)
+
+pub returns-in-Ok-clause-added : goal.returns-in-Ok-clause-added
+returns-in-Ok-clause-added c = added-refined c.args.cuts.now c.args.self.now.parts c.refine_open.new.self.parts c.in-Ok.ensures.ok

@@ -23,21 +23,20 @@ returns-in_err-make_points-clause-full c = λ is.
     let r = rw is at c.from_residual.ensures.1 in
     beyond-points c.args.cuts.now c.args.self.now.parts (c.in_err-make_points.ensures.full (cc r))
 
-pub returns-in_err-split_slots-clause-full : goal.returns-in_err-split_slots-clause-full
-returns-in_err-split_slots-clause-full c = λ is.
-    let r = rw is at c.from_residual-in_err-split_slots.ensures.1 in
+pub returns-in_err-split_touched-clause-full : goal.returns-in_err-split_touched-clause-full
+returns-in_err-split_touched-clause-full c = λ is.
+    let r = rw is at c.from_residual-in_err-split_touched.ensures.1 in
     beyond-slots c.args.cuts.now c.args.self.now.parts
-    (subst (λ (ss : List Slot). most_made < length ss) (slots-are (goal.at.returns-in_err-split_slots-clause-full c).In_ok-make_points) (c.in_err-split_slots.ensures.full (cc r)))
+    (subst (λ (ss : List Slot). most_made < length ss) (slots-are (goal.at.returns-in_err-split_touched-clause-full c).In_ok-make_points) (c.in_err-split_touched.ensures.full (cc r)))
 
 pub returns-clause-ok : goal.returns-clause-ok
 returns-clause-ok c =
     let made = c.in_ok-make_points.ensures.ok in
-    let split = c.in_ok-split_slots.ensures.ok in
-    let faces = c.in_ok-split_faces.ensures.ok in
+    let split = c.in_ok-split_touched.ensures.ok in
     record {
-      points = faces.same.points ∙ (ap (λ (v : StoreView). v.parts.points) split ∙ ap (λ (v : StoreView). v.parts.points) made);
-      slots = faces.same.slots ∙ (ap (λ (v : StoreView). v.parts.slots) split ∙ slots-are (goal.at.returns-clause-ok c).In_ok-make_points);
-      faces = λ t. faces.faces t
-          ∙ (ap (λ (k : ℕ). list_any (bytes_eq t) (triple_pieces c.args.cuts.now k (tracked_in c.split_slots.new.self.parts.keys))) (first-is (goal.at.returns-clause-ok c).After-make_points)
-          ∙ ap (λ (ks : Keys). list_any (bytes_eq t) (triple_pieces c.args.cuts.now (length c.args.self.now.parts.points) (tracked_in ks))) (ap (λ (v : StoreView). v.parts.keys) split ∙ ap (λ (v : StoreView). v.parts.keys) made));
+      points = split.points ∙ ap (λ (v : StoreView). v.parts.points) made;
+      slots = split.slots ∙ slots-are (goal.at.returns-clause-ok c).In_ok-make_points;
+      faces = λ t. split.faces t
+          ∙ (ap (λ (k : ℕ). list_any (bytes_eq t) (triple_pieces c.args.cuts.now k (tracked_in c.make_points.new.self.parts.keys))) (first-is (goal.at.returns-clause-ok c).After-make_points)
+          ∙ ap (λ (ks : Keys). list_any (bytes_eq t) (triple_pieces c.args.cuts.now (length c.args.self.now.parts.points) (tracked_in ks))) (ap (λ (v : StoreView). v.parts.keys) made));
     }

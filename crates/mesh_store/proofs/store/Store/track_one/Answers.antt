@@ -4,6 +4,7 @@ use Rattle.mesh_store.specs.Undoing.{track_marks}
 use Rattle.mesh_store.specs.Changes.{face_put}
 use Rattle.mesh_store.specs.Parts.{parts_of}
 use Rattle.mesh_store.specs.Store.{parts_now}
+use Rattle.mesh_store.proofs.Forgetting.{forget-track}
 use Rattle.mesh_store.proofs.SoundLemmas.{sound-put}
 use Rattle.mesh_store.proofs.Steps.{IsMarked, lead-track, marked-keeps, marked-view}
 use Rattle.mesh_store.proofs.store.Store.track_one.Goals as goal
@@ -14,6 +15,7 @@ step c = record {
   parts_are = ap (λ z. parts_of c.self.inside.slots z) c.in_ok-track_marked.ensures.keys;
   back = lead-track c.args.f (parts_now c.self.inside) _ refl;
   sound = sound-put c.self.inside.side c.args.f true (parts_now c.self.inside) (rw (← c.self.view_is) at c.requires.triple) c.self.invariant.sound;
+  forget = λ h. forget-track c.self.inside.undo c.self.inside.slots h c.args.f (state_of c.args.f c.self.inside.tracked);
   undo_is = c.in_ok-track_marked.ensures.marks;
   opened_is = refl;
   side_is = refl;
