@@ -1,3 +1,6 @@
 mod Orders
 mod Appended
 mod Refined
+mod Meshes
+mod Tracking
+mod CutMeshes

@@ -2,9 +2,16 @@
 //! whoever wants to see what an operation means. Each equals its definition.
 #![tactic(auto)]
 
+mod cutting;
+mod defects;
+mod inserting;
+mod judging;
 mod order;
+mod points;
 mod refining;
 #[cfg(test)]
 mod tests;
+mod wanted;
 
+pub use inserting::{PlainInsert, insert_plain};
 pub use refining::refine_plain;

@@ -1,0 +1,4 @@
+pub mod Meeting
+pub mod Near
+pub mod FirstSlots
+pub mod SectionPlaces

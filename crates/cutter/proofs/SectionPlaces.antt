@@ -1,0 +1,85 @@
+-- Tetrahedra far from a triangle have no section faces.
+use Rattle.std.proofs.Common.{◌≡◌, ℕ, zero, suc, ℤ, ◌≤◌, ◌≤ℤ◌, Bool, true, false, ◌&&◌, ◌||◌, int_le, List, [], ◌∷◌, map, length, All, refl, sym, ap, ◌∙◌, subst, inl, inr, arith}
+use Rattle.std.specs.List.{filter, list_any, list_all, AllByRecursion as Each}
+use Rattle.std.proofs.lemmas.Bool.{cases_lt, or_left, or_right, true≢false, false_from_ne_true}
+use Rattle.std.proofs.lemmas.Int.{ints}
+use Rattle.grid.specs.declared.shapes.Point.{Point}
+use Rattle.grid.specs.declared.shapes.Tri.{Tri}
+use Rattle.grid.specs.Boxes.{IsInBox}
+use Rattle.grid.specs.Determinants.{point_at, origin}
+use Rattle.grid.specs.Simplices.{faces, rising}
+use Rattle.mesh_types.specs.CuttingRule.{is_in_section}
+use Rattle.mesh_types.specs.Phases.{points_of, is_section_face}
+use Rattle.tet_slots.specs.Searches.{overlaps, meets_box}
+use Rattle.cutting_rule.specs.Section.{section_in, IsWithin}
+
+-- the first corner of a face is one of the tetrahedron's
+record Begins (x f : List ℕ) : Type 0 where
+  first : ℕ
+  others : List ℕ
+  is : f ≡ first ∷ others
+  there : (test : ℕ → Bool) → test first ≡ true → list_any test x ≡ true
+
+faces-begin : (x : List ℕ) → Each (Begins x) (faces x)
+faces-begin (a ∷ b ∷ c ∷ d ∷ []) =
+    let x = a ∷ b ∷ c ∷ d ∷ [] in
+    let ia : (test : ℕ → Bool) → test a ≡ true → list_any test x ≡ true = λ test e. or_left (test a) (list_any test (b ∷ c ∷ d ∷ [])) e in
+    let ib : (test : ℕ → Bool) → test b ≡ true → list_any test x ≡ true = λ test e. or_right (test a) (list_any test (b ∷ c ∷ d ∷ [])) (or_left (test b) (list_any test (c ∷ d ∷ [])) e) in
+    (record { first = a; others = c ∷ b ∷ []; is = refl; there = ia }, (record { first = a; others = b ∷ d ∷ []; is = refl; there = ia }, (record { first = a; others = d ∷ c ∷ []; is = refl; there = ia }, (record { first = b; others = c ∷ d ∷ []; is = refl; there = ib }, tt))))
+faces-begin x = tt
+
+le-true : (a b : ℤ) → a ≤ℤ b → int_le a b ≡ true
+le-true a b h = grind (arith, ints)
+
+le-trans : (a b c : ℤ) → a ≤ℤ b → b ≤ℤ c → a ≤ℤ c
+le-trans a b c h k = omega (arith, ints)
+
+and_both : (p q : Bool) → p ≡ true → q ≡ true → (p && q) ≡ true
+and_both p q e f = rw (e, f) refl
+
+and_left : (p q : Bool) → (p && q) ≡ true → p ≡ true
+and_left true q e = refl
+and_left false q e = e
+
+any-map : {X Y : Type 0} (test : Y → Bool) (f : X → Y) (xs : List X) → list_any test (map f xs) ≡ list_any (λ x. test (f x)) xs
+any-map test f [] = refl
+any-map test f (x ∷ xs) = ap (λ (b : Bool). test (f x) || b) (any-map test f xs)
+
+module _ (points : List Point) (x : List ℕ) (c : ℕ) (there : (test : ℕ → Bool) → test c ≡ true → list_any test x ≡ true) where
+  any-point : (f : Point → ℤ) (test : ℤ → Bool) → test (f (point_at points c)) ≡ true → list_any test (map f (points_of points x)) ≡ true
+  any-point f test e = any-map test f (points_of points x) ∙ (any-map (λ p. test (f p)) (point_at points) x ∙ there (λ u. test (f (point_at points u))) e)
+
+  overlaps-point : (f : Point → ℤ) (lo hi : ℤ) → lo ≤ℤ f (point_at points c) → f (point_at points c) ≤ℤ hi → overlaps lo hi (map f (points_of points x)) ≡ true
+  unfolding overlaps
+  overlaps-point f lo hi a b =
+      and_both _ _ (le-true lo hi (le-trans lo (f (point_at points c)) hi a b))
+      (and_both _ _ (any-point f (λ v. int_le v hi) (le-true _ hi b)) (any-point f (λ v. int_le lo v) (le-true lo _ a)))
+
+  meets-point : (lo hi : Point) → IsWithin lo hi (point_at points c) → meets_box lo hi (points_of points x) ≡ true
+  unfolding meets_box
+  meets-point lo hi h =
+      and_both _ _ (and_both _ _ (overlaps-point (λ p. p.x) lo.x hi.x h.x_low h.x_high) (overlaps-point (λ p. p.y) lo.y hi.y h.y_low h.y_high))
+      (overlaps-point (λ p. p.z) lo.z hi.z h.z_low h.z_high)
+
+filter-none : (test : List ℕ → Bool) (P : List ℕ → Type 0) → ((e : List ℕ) → P e → test e ≡ false) → (es : List (List ℕ)) → Each P es → filter test es ≡ []
+filter-none test P f [] h = refl
+filter-none test P f (e ∷ es) h = rw (f e h.0) (filter-none test P f es h.1)
+
+point-in : (n : ℕ) (points : List Point) → All (IsInBox n) points → (c : ℕ) → IsInBox n (point_at points c)
+point-in n points h c = elim (cases_lt c (length points)) [
+  | inl lt ↦ h c origin lt
+  | inr le ↦ subst (IsInBox n) (sym (past points c le)) (record { x_in = record { low = omega (arith, ints); high = omega (arith, ints) }; y_in = record { low = omega (arith, ints); high = omega (arith, ints) }; z_in = record { low = omega (arith, ints); high = omega (arith, ints) } })
+]
+  where
+    past : (points : List Point) (c : ℕ) → length points ≤ c → point_at points c ≡ origin
+    past [] c le = refl
+    past (p ∷ points) zero le = absurd (omega arith)
+    past (p ∷ points) (suc c) le = past points c (omega arith)
+
+pub far-sections : (n : ℕ) (points : List Point) (t : Tri) (lo hi : Point) (x : List ℕ) → All (IsInBox n) points → ((p : Point) → IsInBox n p → is_in_section t p ≡ true → IsWithin lo hi p) → meets_box lo hi (points_of points x) ≡ false → section_in points t x ≡ []
+unfolding section_in
+far-sections n points t lo hi x inside bounds far = ap (map rising) (filter-none (is_section_face points t) (Begins x) (λ f h.
+    false_from_ne_true (is_section_face points t f) (λ e.
+    let head : is_in_section t (point_at points h.first) ≡ true = and_left _ (list_all (is_in_section t) (points_of points h.others)) (subst (λ g. is_section_face points t g ≡ true) h.is e) in
+    true≢false (sym (meets-point points x h.first h.there lo hi (bounds (point_at points h.first) (point-in n points inside h.first) head)) ∙ far)))
+    (faces x) (faces-begin x))

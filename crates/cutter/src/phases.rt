@@ -1,0 +1,88 @@
+// The phases of an insertion.
+ghost use Rattle.cutting_rule.specs.Edges.{IsSplitEdge, numbers_of};
+ghost use Rattle.grid.specs.Boxes.{IsInBox, IsTriInBox};
+ghost use Rattle.grid.specs.Determinants.{point_at};
+ghost use Rattle.grid.specs.Meshes.{IsWithinLimits};
+ghost use Rattle.grid.specs.Planes.{IsDegenerate};
+ghost use Rattle.mesh_store.specs.Changes.{IsGrown, IsSameTransaction};
+ghost use Rattle.mesh_store.specs.Parts.{mesh_in, rolled_back};
+ghost use Rattle.mesh_store.specs.Sound.{IsSound};
+ghost use Rattle.mesh_types.specs.CuttingRule.{splits};
+ghost use Rattle.mesh_types.specs.Phases.{cut_at, phase, wanted_cuts};
+ghost use Rattle.std.specs.Prelude.{All, Err, IfOk, IsSome, OnErr, OnOk, [], length, map, true, ◌+◌, ◌<◌, ◌^◌, ◌∷◌, ◌≡◌};
+
+use crate::wanted::wanted_edges;
+use cutting_rule::{CuttingTriangle, Edge, cut_between, sort_edges_once};
+use grid::{Memory, Tri};
+use mesh_store::{Store, StoreIssue};
+use mesh_types::Cut;
+use planes::Plane;
+use std::alloc::Global;
+use tet_slots::Slots;
+
+/// The cut of the edge from u to v where it crosses a plane.
+fn cut_of(plane: &Plane, slots: &Slots, u: u32, v: u32) -> Cut
+    requires u_in { u < length slots.now.points }
+    requires v_in { v < length slots.now.points }
+    requires in_box { All (IsInBox (2 ^ 18)) slots.now.points }
+    requires apart { splits plane.now (point_at slots.now.points u ∷ point_at slots.now.points v ∷ []) ≡ true }
+    ensures { result ≡ cut_at slots.now.points plane.now (u ∷ v ∷ []) }
+{
+    cut_between(plane, u, slots.point(u), v, slots.point(v))
+}
+
+fn cuts_of(alloc: Global, plane: &Plane, slots: &Slots, edges: &[Edge]) -> Result<Vec<Cut>, Memory>
+    requires in_box { All (IsInBox (2 ^ 18)) slots.now.points }
+    requires apart { All (λ e. IsSplitEdge slots.now.points plane.now e.0) edges.now }
+    ensures { IfOk result (λ v. v.items ≡ map (cut_at slots.now.points plane.now) (numbers_of edges.now)) }
+{
+    let mut cuts = Vec::new(alloc);
+    for edge in edges {
+        cuts.push(cut_of(plane, slots, edge.0[0], edge.0[1]))?;
+    }
+    Ok(cuts)
+}
+
+fn wanted_cuts(alloc: Global, store: &Store, tri: &Tri, i: u32) -> Result<Vec<Cut>, Memory>
+    requires tri_in { IsTriInBox (2 ^ 18) tri.now }
+    requires some_area { ¬ IsDegenerate tri.now }
+    requires index { i < 4 }
+    ensures cuts { IfOk result (λ v. v.items ≡ wanted_cuts (mesh_in store.now.parts) tri.now i) }
+    ensures sound { IsSound store.now.side store.now.parts }
+{
+    let triangle = CuttingTriangle::new(tri);
+    let slots = store.slots();
+    let mut edges = wanted_edges(alloc, &triangle, i, slots)?;
+    sort_edges_once(&mut edges);
+    cuts_of(alloc, triangle.phase_plane(i), slots, &edges)
+}
+
+/// Cuts the edges that phase i of the insertion of a triangle wants, in rising order, and answers how
+/// many there were, which is the number of new points. Phase 0 cuts crossed tetrahedra in the
+/// triangle's plane; phase i, from 1 to 3, cuts what lies on that plane along side i - 1. Refused where
+/// a limit would be passed, and then the mesh is the one at begin and the store is closed, as after
+/// want of memory.
+pub fn phase(alloc: Global, store: &mut Store, tri: &Tri, i: u32) -> Result<u32, StoreIssue>
+    requires open { IsSome store.old.at_begin }
+    requires tri_in { IsTriInBox (2 ^ 18) tri.now }
+    requires some_area { ¬ IsDegenerate tri.now }
+    requires index { i < 4 }
+    ensures mesh { OnOk result (mesh_in store.new.parts ≡ phase (mesh_in store.old.parts) tri.now i) }
+    ensures count { IfOk result (λ k. length store.old.parts.points + k ≡ length store.new.parts.points) }
+    ensures grown { OnOk result (IsGrown store.old.parts store.new.parts) }
+    ensures goes_on { OnOk result (IsSameTransaction store.old store.new) }
+    ensures within { OnOk result (IsWithinLimits (mesh_in store.new.parts)) }
+    ensures full { result ≡ Err StoreIssue.Full → ¬ IsWithinLimits (phase (mesh_in store.old.parts) tri.now i) }
+    ensures err { OnErr result (store.new ≡ rolled_back store.old) }
+{
+    match wanted_cuts(alloc, store, tri, i) {
+        Ok(cuts) => {
+            store.refine(&cuts)?;
+            Ok(cuts.len() as u32)
+        }
+        Err(Memory) => {
+            store.rollback();
+            Err(StoreIssue::Memory)
+        }
+    }
+}

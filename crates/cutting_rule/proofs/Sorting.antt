@@ -1,0 +1,76 @@
+-- Sorting and keeping one of each gives the list in rising order, each once.
+use Rattle.std.proofs.Common.{◌≡◌, ℕ, Bool, true, false, ◌||◌, map, refl, ap, sym, ◌∙◌, List, [], ◌∷◌}
+use Rattle.std.specs.declared.cmp.Ordering.{Ordering}
+use Rattle.std.specs.declared.cmp.Ordering.TheVariants.{Less}
+use Rattle.std.specs.Cmp.{IsTotalOrder}
+use Rattle.std.specs.Cmp.Lexicographic.{slice_cmp}
+use Rattle.std.specs.List.{list_any, AllByRecursion, dedup, dedup_from}
+use Rattle.std.specs.List.Sorted.{IsPermutation, IsSorted, IsStrictlySortedBy}
+use Rattle.std.specs.Ordering.{nat_cmp, is_lt}
+use Rattle.std.specs.Str.{bytes_eq}
+use Rattle.std.proofs.lemmas.Bool.{cases_Bool}
+use Rattle.std.proofs.lemmas.Bool.Decides.{nat_tests}
+use Rattle.std.proofs.lemmas.Cmp.{same_from_slice_cmp, nat_list_cmp_total}
+use Rattle.std.proofs.lemmas.List.Kept.{IsStrictlySortedBy-dedup}
+use Rattle.std.proofs.lemmas.List.Sorted.{list_any-IsPermutation}
+use Rattle.std.proofs.lemmas.Map.Text.{is_eq-slice_cmp}
+use Rattle.std.proofs.Common.{arith, inl, inr}
+use Rattle.grid.specs.Meshes.{is_below, Ordered}
+use Rattle.mesh_types.specs.Tracking.{in_order_once}
+use Rattle.mesh_types.proofs.TripleSets.{is_among, equal_from, ordered_same, in_order_once-Ordered, is_among-in_order_once}
+
+is_below-is_lt : (x y : List ℕ) (o : Ordering) → o ≡ slice_cmp nat_cmp x y → is_lt o ≡ is_below x y
+is_below-is_lt = same_from_slice_cmp nat_cmp is_lt is_below refl (λ _ _. refl) (λ _ _. refl) (λ x y xs ys o h. grind (arith, nat_tests))
+
+or_step : (p q r : Bool) → p ≡ q → (p || (q || r)) ≡ (p || r)
+or_step true q r e = refl
+or_step false true r e = cc
+or_step false false r e = refl
+
+or_drop : (p q r : Bool) → q ≡ p → (p || r) ≡ (p || (q || r))
+or_drop p q r e = sym (or_step p q r (sym e))
+
+module _ {X : Type 0} (f : X → List ℕ) where
+  abbrev pub cmp : X → X → Ordering
+  cmp x y = slice_cmp nat_cmp (f x) (f y)
+
+  abbrev pub same : X → X → Bool
+  same x y = bytes_eq (f x) (f y)
+
+  cmp-total : IsTotalOrder cmp
+  cmp-total = record {
+    antisymm = λ x y. nat_list_cmp_total.antisymm (f x) (f y);
+    trans = λ x y z. nat_list_cmp_total.trans (f x) (f y) (f z);
+    congr = λ x y z. nat_list_cmp_total.congr (f x) (f y) (f z);
+  }
+
+  below_all : (x : X) (ys : List X) → AllByRecursion (λ y. cmp x y ≡ Less) ys → AllByRecursion (λ t. is_below (f x) t ≡ true) (map f ys)
+  below_all x [] h = tt
+  below_all x (y ∷ ys) h = (sym (is_below-is_lt (f x) (f y) (cmp x y) refl) ∙ ap is_lt h.0, below_all x ys h.1)
+
+  pub Ordered-strict : (xs : List X) → IsStrictlySortedBy cmp xs → Ordered (map f xs)
+  unfolding IsStrictlySortedBy
+  Ordered-strict [] h = tt
+  Ordered-strict (x ∷ xs) h = (below_all x xs h.0, Ordered-strict xs h.1)
+
+  any-dedup_from : (t : List ℕ) (k : X) (xs : List X) → is_among t (map f (dedup_from same k xs)) ≡ (bytes_eq t (f k) || is_among t (map f xs))
+  any-dedup_from t k [] = refl
+  any-dedup_from t k (x ∷ xs) = elim (cases_Bool (same x k)) [
+    | inl e ↦ rw e (any-dedup_from t k xs ∙ or_drop (bytes_eq t (f k)) (bytes_eq t (f x)) (is_among t (map f xs)) (ap (bytes_eq t) (equal_from (f x) (f k) e)))
+    | inr e ↦ rw e (ap (λ b. bytes_eq t (f k) || b) (any-dedup_from t x xs))
+  ]
+
+  any-dedup : (t : List ℕ) (xs : List X) → is_among t (map f (dedup same xs)) ≡ is_among t (map f xs)
+  any-dedup t [] = refl
+  any-dedup t (x ∷ xs) = any-dedup_from t x xs
+
+  any-map : (t : List ℕ) (xs : List X) → is_among t (map f xs) ≡ list_any (λ x. bytes_eq t (f x)) xs
+  any-map t [] = refl
+  any-map t (x ∷ xs) = ap (λ (b : Bool). bytes_eq t (f x) || b) (any-map t xs)
+
+  pub sorted-once : (xs ys : List X) → IsPermutation xs ys → IsSorted cmp ys → map f (dedup same ys) ≡ in_order_once (map f xs)
+  sorted-once xs ys moved sorted =
+      ordered_same (map f (dedup same ys)) (in_order_once (map f xs))
+      (Ordered-strict (dedup same ys) (IsStrictlySortedBy-dedup cmp-total (λ x y. sym (is_eq-slice_cmp (f x) (f y))) ys sorted))
+      (in_order_once-Ordered (map f xs))
+      (λ t. any-dedup t ys ∙ (any-map t ys ∙ (sym (list_any-IsPermutation (λ x. bytes_eq t (f x)) xs ys moved) ∙ (sym (any-map t xs) ∙ sym (is_among-in_order_once t (map f xs))))))

@@ -1,0 +1,6 @@
+pub mod Bounds
+pub mod Triangle
+pub mod Edges
+pub mod Section
+pub mod Spread
+pub mod Until

@@ -1,0 +1,58 @@
+// The faces of a tetrahedron that are in a triangle's section.
+ghost use Rattle.cutting_rule.specs.Section.{section_in};
+ghost use Rattle.grid.specs.Boxes.{IsInBox};
+ghost use Rattle.grid.specs.Simplices.{rising};
+ghost use Rattle.grid.specs.Views.{triples_of};
+ghost use Rattle.grid.specs.declared.shapes.Point.{Point};
+ghost use Rattle.mesh_types.specs.Phases.{points_of};
+ghost use Rattle.mesh_types.specs.Tracking.{in_order_once};
+ghost use Rattle.std.specs.Prelude.{All, List, OnOk, [], if◌then◌else◌, ◌&&◌, ◌++◌, ◌^◌, ◌∷◌, ◌≡◌};
+
+use crate::triangle::CuttingTriangle;
+use grid::{Face, Memory, Point, Tet};
+
+fn push_if(there: bool, face: Face, into: &mut Vec<Face>) -> Result<(), Memory>
+    ensures { OnOk result (triples_of into.new.items ≡ triples_of into.old.items ++ (if there then rising face.0 ∷ [] else [])) }
+{
+    if there {
+        into.push(face.rising())?;
+    }
+    Ok(())
+}
+
+fn all_three(a: bool, b: bool, c: bool) -> bool
+    ensures { result ≡ (a && b && c) }
+{
+    a && b && c
+}
+
+/// Adds the faces of a tetrahedron that are in the triangle's section, as rising triples, where the
+/// corners are its points.
+pub fn push_section(
+    triangle: &CuttingTriangle,
+    tet: Tet,
+    corners: &[Point; 4],
+    into: &mut Vec<Face>,
+) -> Result<(), Memory>
+    requires { All (IsInBox (2 ^ 18)) corners.now }
+    ensures { OnOk result ((points : List Point) → corners.now ≡ points_of points tet.0 → triples_of into.new.items ≡ triples_of into.old.items ++ section_in points triangle.now tet.0) }
+{
+    let Tet([a, b, c, d]) = tet;
+    let has_a = triangle.has_in_section(corners[0]);
+    let has_b = triangle.has_in_section(corners[1]);
+    let has_c = triangle.has_in_section(corners[2]);
+    let has_d = triangle.has_in_section(corners[3]);
+    push_if(all_three(has_a, has_c, has_b), Face([a, c, b]), into)?;
+    push_if(all_three(has_a, has_b, has_d), Face([a, b, d]), into)?;
+    push_if(all_three(has_a, has_d, has_c), Face([a, d, c]), into)?;
+    push_if(all_three(has_b, has_c, has_d), Face([b, c, d]), into)?;
+    Ok(())
+}
+
+/// Sorts the faces, and keeps one of each.
+pub fn sort_faces_once(faces: &mut Vec<Face>)
+    ensures { triples_of faces.new.items ≡ in_order_once (triples_of faces.old.items) }
+{
+    faces.sort_unstable();
+    faces.dedup();
+}

@@ -1,0 +1,8 @@
+pub mod Growing
+pub mod Listed
+pub mod Old
+pub mod NewPieces
+pub mod Fresh
+pub mod Starting
+pub mod Tiling
+pub mod Covered

@@ -1,0 +1,53 @@
+-- What was there before the cuts.
+use Rattle.std.proofs.Common.{◌≡◌, ℕ, zero, suc, ◌<◌, pos, ◌<ℤ◌, Bool, true, false, cond, List, [], ◌∷◌, length, take, All, refl, sym, ap, ◌∙◌, subst, inl, inr, arith}
+use Rattle.std.specs.List.{AllByRecursion as Each}
+use Rattle.std.proofs.lemmas.Bool.{cases_Bool, true≢false}
+use Rattle.std.proofs.lemmas.List.Elements.{recursion_from_All}
+use Rattle.grid.specs.declared.shapes.Point.{Point}
+use Rattle.grid.specs.Determinants.{point_at, det, det_at, IsPositive}
+use Rattle.grid.specs.Simplices.{IsTet}
+use Rattle.mesh_store.specs.Changes.{IsGrown}
+use Rattle.mesh_store.specs.Parts.{Parts, live_tets}
+use Rattle.tet_slots.specs.declared.slot.Slot.{Slot}
+use Rattle.tet_slots.specs.Slots.{slot_at, no_slot}
+
+point-front : (points : List Point) (n u : ℕ) → u < n → point_at (take n points) u ≡ point_at points u
+point-front points zero u lt = absurd (omega arith)
+point-front [] (suc n) u lt = refl
+point-front (p ∷ points) (suc n) zero lt = refl
+point-front (p ∷ points) (suc n) (suc u) lt = point-front points n u (omega arith)
+
+pub point-kept : (old new : List Point) (u : ℕ) → take (length old) new ≡ old → u < length old → point_at new u ≡ point_at old u
+point-kept old new u e lt = sym (point-front new (length old) u lt) ∙ ap (λ ps. point_at ps u) e
+
+det-kept : (old new : List Point) (x : List ℕ) → take (length old) new ≡ old → Each (λ u. u < length old) x → det_at new x ≡ det_at old x
+det-kept old new (a ∷ b ∷ c ∷ d ∷ []) e h =
+    λ j. det (point-kept old new a e h.0 j) (point-kept old new b e h.1.0 j) (point-kept old new c e h.1.1.0 j) (point-kept old new d e h.1.1.1.0 j)
+det-kept old new [] e h = refl
+det-kept old new (a ∷ []) e h = refl
+det-kept old new (a ∷ b ∷ []) e h = refl
+det-kept old new (a ∷ b ∷ c ∷ []) e h = refl
+det-kept old new (a ∷ b ∷ c ∷ d ∷ f ∷ x) e h = refl
+
+live-step : (P : List ℕ → Type 0) (s : Slot) (xs : List (List ℕ)) (b : Bool) → s.live ≡ b → b ≡ true → Each P (cond b (s.tet.0 ∷ xs) xs) → P s.tet.0
+live-step P s xs true e f h = h.0
+live-step P s xs false e f h = cc f
+
+tail-step : (P : List ℕ → Type 0) (x : List ℕ) (xs : List (List ℕ)) (b : Bool) → Each P (cond b (x ∷ xs) xs) → Each P xs
+tail-step P x xs true h = h.1
+tail-step P x xs false h = h
+
+pub live-each : (P : List ℕ → Type 0) (slots : List Slot) → Each P (live_tets slots) → (j : ℕ) → j < length slots → (slot_at slots j).live ≡ true → P (slot_at slots j).tet.0
+live-each P [] h j lt live = absurd (omega arith)
+live-each P (s ∷ slots) h zero lt live = live-step P s (live_tets slots) s.live refl live h
+live-each P (s ∷ slots) h (suc j) lt live = live-each P slots (tail-step P s.tet.0 (live_tets slots) s.live h) j (omega arith) live
+
+-- slots that were there and live are still positive
+pub old-positive : (start now : Parts) → IsGrown start now → All (λ (s : Slot). IsTet (length start.points) s.tet.0) start.slots → All (IsPositive start.points) (live_tets start.slots) → (j : ℕ) → j < length start.slots → (slot_at now.slots j).live ≡ true → IsPositive now.points (slot_at now.slots j).tet.0
+old-positive start now g tets positive j lt live =
+    let tet = (slot_at start.slots j).tet.0 in
+    let was_live : (slot_at start.slots j).live ≡ true = elim (cases_Bool (slot_at start.slots j).live) [ inl e ↦ e | inr e ↦ absurd (true≢false (sym live ∙ g.killed j lt e)) ] in
+    let before : IsPositive start.points tet = live-each (IsPositive start.points) start.slots (recursion_from_All (IsPositive start.points) (live_tets start.slots) positive) j lt was_live in
+    let low : Each (λ u. u < length start.points) tet = recursion_from_All (λ u. u < length start.points) tet (tets j no_slot lt).in_range in
+    let same : det_at now.points tet ≡ det_at start.points tet = det-kept start.points now.points tet g.points low in
+    subst (λ (t : List ℕ). IsPositive now.points t) (sym (ap (λ t. t.0) (g.tets j lt))) (subst (λ z. pos 0 <ℤ z) (sym same) before)

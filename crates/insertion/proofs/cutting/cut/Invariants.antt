@@ -1,0 +1,13 @@
+use Rattle.std.proofs.Common.{◌≡◌, ◌+◌, length, ℤ, IsSome}
+use Rattle.mesh_store.specs.Parts.{Parts, mesh_in}
+use Rattle.cutting_rule.specs.Until.{until}
+use Rattle.insertion.specs.Progress.{IsOpenFrom}
+use Rattle.insertion.proofs.cutting.cut.Given as goal
+
+abbrev pub invariant-loop-i : goal.invariant-loop-i
+invariant-loop-i l = record {
+  started : IsSome l.store.at_begin;
+  goes_on : (start : Parts) (side : ℤ) → IsOpenFrom start side l.initial.store → IsOpenFrom start side l.store;
+  mesh : mesh_in l.store.parts ≡ until (mesh_in l.initial.store.parts) l.tri l.i;
+  count : length l.initial.store.parts.points + l.count ≡ length l.store.parts.points;
+}

@@ -1,0 +1,24 @@
+use Rattle.std.proofs.Common.{◌≡◌, ◌<◌, ◌≤◌, ◌^◌, [], ◌∷◌, refl, ap, arith, get_or}
+use Rattle.grid.specs.declared.shapes.Tet.{Tet}
+use Rattle.mesh_types.specs.Phases.{wanted_in}
+use Rattle.cutting_rule.proofs.Points.{points-in}
+use Rattle.cutting_rule.proofs.Steps.{mapped-step, mapped-end}
+use Rattle.plain_ops.proofs.wanted.wanted_of.Goals as goal
+
+abbrev no_tet : Tet
+no_tet = record { 0 = [] }
+
+pub corner_points-corners-requires : goal.corner_points-corners-requires
+corner_points-corners-requires c = c.requires.tets_are c.loop-tet.tet-index no_tet (omega arith)
+
+pub push_wanted-requires-clause-corners_in : goal.push_wanted-requires-clause-corners_in
+push_wanted-requires-clause-corners_in c =
+    points-in (2 ^ 18) c.args.points.now c.corner_points-corners.result (get_or c.args.tets.now c.loop-tet.tet-index no_tet).0 c.corner_points-corners.ensures c.requires.in_box (c.requires.tets_are c.loop-tet.tet-index no_tet (omega arith)).in_range
+
+pub loop-tet-preserved : goal.loop-tet-preserved
+loop-tet-preserved c =
+    let points = c.args.points.now in
+    mapped-step (λ (x : Tet). x.0) (wanted_in points c.args.triangle.now c.args.i) c.args.tets.now c.loop-tet.tet-index no_tet _ _ _ _ (omega arith) refl (c.in_ok-push_wanted.ensures points c.corner_points-corners.ensures) c.loop-tet.invariant
+
+pub returns : goal.returns
+returns c = mapped-end (λ (x : Tet). x.0) (wanted_in c.args.points.now c.args.triangle.now c.args.i) c.args.tets.now c.loop-tet.tet-index _ _ (omega arith) c.loop-tet.invariant
