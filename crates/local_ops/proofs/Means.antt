@@ -1,0 +1,72 @@
+-- Means of numbers up to a limit.
+use Rattle.std.proofs.Common.{◌≡◌, ℕ, ◌+◌, ◌*◌, ◌/◌, ◌^◌, ◌<◌, ◌≤◌, ℤ, pos, negsuc, nat_abs, SFits, to_z, of_z, to_z-of_z, refl, sym, ◌∙◌, subst, ap, arith, rules}
+use mir.Syntax.{w32, w64}
+use Rattle.std.proofs.Math.Nat.{div-lt_iff_lt-mul}
+use Rattle.std.proofs.lemmas.Int.{ints}
+use Rattle.grid.specs.declared.shapes.Point.{Point}
+use Rattle.grid.specs.Boxes.{IsUpTo, IsInBox}
+use Rattle.mesh_types.specs.Results.{shifted_to}
+use Rattle.mesh_store.specs.Sound.{IsBox}
+use Rattle.local_ops.specs.Smoothing.{mean_of}
+
+record IsNat (l : ℕ) (z : ℤ) : Type 0 where
+  pub n : ℕ
+  pub is : z ≡ pos n
+  pub most : n ≤ l
+
+nat_of : (l : ℕ) (z : ℤ) → IsUpTo l z → IsNat l z
+nat_of l (pos n) h = record { n = n; is = refl; most = let g = h.high in omega (arith, ints, g) }
+nat_of l (negsuc n) h = let g = h.low in absurd (omega (arith, ints, g))
+
+up_to : (l n : ℕ) → n ≤ l → IsUpTo l (pos n)
+up_to l n h = record { low = omega (arith, ints); high = omega (arith, ints, h) }
+
+rounded : (s n l : ℕ) → 0 < n → s ≤ l * n → (2 * s + n) / (2 * n) ≤ l
+rounded s n l some h = less (div-lt_iff_lt-mul {k = 2 * n} {x = 2 * s + n} {y = l + 1} (omega arith)).1 (below (l * n) h (product l n))
+  where
+    less : {q : ℕ} → (2 * s + n < (l + 1) * (2 * n) → q < l + 1) → 2 * s + n < (l + 1) * (2 * n) → q ≤ l
+    less f g = let i = f g in omega arith
+
+    product : (l n : ℕ) → (l + 1) * (2 * n) ≡ 2 * (l * n) + 2 * n
+    product l n = grind arith
+
+    below : (m : ℕ) → s ≤ m → (l + 1) * (2 * n) ≡ 2 * m + 2 * n → 2 * s + n < (l + 1) * (2 * n)
+    below m h e = omega arith
+
+pub mean-in : (l n : ℕ) (sum : ℤ) → 0 < n → IsUpTo (l * n) sum → IsUpTo l (mean_of sum n)
+mean-in l n sum some h =
+    let s = nat_of (l * n) sum h in
+    subst (λ z. IsUpTo l (mean_of z n)) (sym s.is) (up_to l ((2 * s.n + n) / (2 * n)) (rounded s.n n l some s.most))
+
+-- ---- signed readings
+pub small-fits : (z : ℤ) → IsUpTo (2 ^ 18) z → SFits w32 z
+small-fits z h = let n = nat_of (2 ^ 18) z h in subst (SFits w32) (sym n.is) (few n.n n.most)
+  where
+    few : (n : ℕ) → n ≤ 2 ^ 18 → SFits w32 (pos n)
+    few n l = search rules
+
+pub sum-fits : (z : ℤ) (n : ℕ) → n ≤ 2 ^ 20 → IsUpTo (2 ^ 18 * n) z → SFits w64 z
+sum-fits z n l h = let m = nat_of (2 ^ 18 * n) z h in subst (SFits w64) (sym m.is) (few m.n (below m.n n m.most l))
+  where
+    below : (m n : ℕ) → m ≤ 2 ^ 18 * n → n ≤ 2 ^ 20 → m ≤ 2 ^ 38
+    below m n h l = omega arith
+
+    few : (n : ℕ) → n ≤ 2 ^ 38 → SFits w64 (pos n)
+    few n l = search rules
+
+-- a point of a box on the grid
+pub in-grid : (side : ℤ) → IsBox side → (p : Point) → IsInBox (nat_abs side) p → IsInBox (2 ^ 18) p
+in-grid side b p h = record { x_in = wider p.x h.x_in; y_in = wider p.y h.y_in; z_in = wider p.z h.z_in }
+  where
+    wider : (z : ℤ) → IsUpTo (nat_abs side) z → IsUpTo (2 ^ 18) z
+    wider z h = let low = b.low in let high = b.high in let g = h.high in record { low = h.low; high = omega (arith, ints, low, high, g) }
+
+-- where a coordinate goes, read through the words of the machine
+pub shifted-is : (r side from mean sum : ℤ) (way n : ℕ) → SFits w32 r → SFits w32 side → IsUpTo (2 ^ 18) from → IsUpTo (2 ^ 18) mean → n ≤ 2 ^ 20 → IsUpTo (2 ^ 18 * n) sum
+    → r ≡ shifted_to (nat_abs (to_z w32 (of_z w32 side))) way (to_z w32 (of_z w32 from)) (to_z w32 (of_z w32 mean)) → mean ≡ mean_of (to_z w64 (of_z w64 sum)) n
+    → to_z w32 (of_z w32 r) ≡ shifted_to (nat_abs side) way from (mean_of sum n)
+shifted-is r side from mean sum way n fr fs hf hm l hs e k =
+    let m : to_z w32 (of_z w32 mean) ≡ mean_of sum n = to_z-of_z (small-fits mean hm) ∙ (k ∙ ap (λ z. mean_of z n) (to_z-of_z (sum-fits sum n l hs))) in
+    let s : to_z w32 (of_z w32 side) ≡ side = to_z-of_z fs in
+    let f : to_z w32 (of_z w32 from) ≡ from = to_z-of_z (small-fits from hf) in
+    to_z-of_z fr ∙ (e ∙ (λ i. shifted_to (nat_abs (s i)) way (f i) (m i)))

@@ -1,0 +1,92 @@
+-- The slots that a try may kill: they were live, and their tetrahedra are positive.
+use Rattle.std.proofs.Common.{◌≡◌, ℕ, zero, suc, ◌+◌, ◌-◌, ◌<◌, ◌≤◌, Bool, true, false, cond, List, [], ◌∷◌, length, drop, All, refl, sym, ◌∙◌, ap, subst, inl, inr, arith, nat_abs}
+use Rattle.std.specs.List.{AllByRecursion as Each}
+use Rattle.std.proofs.lemmas.Bool.{cases_Bool, and_parts}
+use Rattle.std.proofs.lemmas.List.{get_or-drop, length-drop}
+use Rattle.std.proofs.lemmas.List.Elements.{All-from_recursion, recursion_from_All}
+use Rattle.grid.specs.Determinants.{IsPositive}
+use Rattle.grid.specs.Meshes.{Mesh}
+use Rattle.mesh_types.specs.declared.tries.Try.{Try}
+use Rattle.mesh_types.proofs.Covered.{longer_result}
+use Rattle.mesh_types.proofs.Exchange.{IsLonger, positive-longer}
+use Rattle.mesh_types.proofs.Splits.{cornered_tets}
+use Rattle.tet_slots.specs.declared.slot.Slot.{Slot}
+use Rattle.tet_slots.specs.Slots.{slot_at, no_slot}
+use Rattle.tet_slots.specs.Searches.{numbers_of}
+use Rattle.mesh_store.specs.Parts.{StoreView, live_tets, mesh_in}
+use Rattle.mesh_store.proofs.MeshLemmas.{well_formed}
+use Rattle.local_ops.specs.Attempts.{IsMade, start_of, may_go}
+use Rattle.local_ops.specs.Measures.{corners_at}
+use Rattle.local_ops.proofs.Killed.{may_go-is}
+use Rattle.local_ops.proofs.Replacing.{is_near}
+
+live-step : (P : List ℕ → Type 0) (s : Slot) (xs : List (List ℕ)) (b : Bool) → s.live ≡ b → b ≡ true → Each P (cond b (s.tet.0 ∷ xs) xs) → P s.tet.0
+live-step P s xs true e f h = h.0
+live-step P s xs false e f h = cc f
+
+tail-step : (P : List ℕ → Type 0) (x : List ℕ) (xs : List (List ℕ)) (b : Bool) → Each P (cond b (x ∷ xs) xs) → Each P xs
+tail-step P x xs true h = h.1
+tail-step P x xs false h = h
+
+-- what holds of the live tetrahedra holds of that in a live slot
+pub live-each : (P : List ℕ → Type 0) (slots : List Slot) → Each P (live_tets slots) → (j : ℕ) → j < length slots → (slot_at slots j).live ≡ true → P (slot_at slots j).tet.0
+live-each P [] h j lt live = absurd (omega arith)
+live-each P (s ∷ slots) h zero lt live = live-step P s (live_tets slots) s.live refl live h
+live-each P (s ∷ slots) h (suc j) lt live = live-each P slots (tail-step P s.tet.0 (live_tets slots) s.live h) j (omega arith) live
+
+-- likewise of those from a first slot on
+pub live-from : (P : List ℕ → Type 0) (first i : ℕ) (slots : List Slot) → first ≤ i → i < length slots → (slot_at slots i).live ≡ true → All P (live_tets (drop first slots)) → P (slot_at slots i).tet.0
+live-from P first i slots le lt live h =
+    let here : slot_at (drop first slots) (i - first) ≡ slot_at slots i =
+    get_or-drop first slots (i - first) no_slot ∙ (let e : first + (i - first) ≡ i = omega arith in ap (slot_at slots) e) in
+    subst (λ (s : Slot). P s.tet.0) here
+    (live-each P (drop first slots) (recursion_from_All P (live_tets (drop first slots)) h) (i - first) (let n = length-drop first slots in omega arith) (ap (λ (s : Slot). s.live) here ∙ live))
+
+-- what holds of the slots that pass holds of their numbers
+each-number : (passes : Slot → Bool) (P : ℕ → Type 0) (n : ℕ) (slots : List Slot) → ((i : ℕ) → i < length slots → passes (slot_at slots i) ≡ true → P (n + i)) → Each P (numbers_of passes n slots)
+each-number passes P n [] h = tt
+each-number passes P n (s ∷ slots) h =
+    let rest = each-number passes P (suc n) slots (λ i l e. later i (h (suc i) (omega arith) e)) in
+    elim (cases_Bool (passes s)) [
+      | inl e ↦ rw e (here (h 0 (omega arith) e), rest)
+      | inr e ↦ rw e rest
+    ]
+  where
+    here : P (n + 0) → P n
+    here p = let i : n + 0 ≡ n = omega arith in subst P i p
+
+    later : (i : ℕ) → P (n + suc i) → P (suc n + i)
+    later i p = let j : n + suc i ≡ suc n + i = omega arith in subst P j p
+
+-- at most as many as there are slots, each the number of one
+pub length-numbers : (passes : Slot → Bool) (n : ℕ) (slots : List Slot) → length (numbers_of passes n slots) ≤ length slots
+length-numbers passes n [] = omega arith
+length-numbers passes n (s ∷ slots) =
+    let rest = length-numbers passes (suc n) slots in
+    elim (cases_Bool (passes s)) [ inl e ↦ rw e (omega (arith, rest)) | inr e ↦ rw e (omega (arith, rest)) ]
+
+pub numbers-there : (passes : Slot → Bool) (slots : List Slot) → All (λ i. i < length slots) (numbers_of passes 0 slots)
+numbers-there passes slots = All-from_recursion (λ i. i < length slots) (numbers_of passes 0 slots) (each-number passes (λ i. i < length slots) 0 slots (λ i l e. omega arith))
+
+module _ (t : Try) (v : StoreView) (h : IsMade t v) where
+  longer : IsLonger (start_of v).points v.parts.points
+  longer = subst (IsLonger (start_of v).points) (sym (ap (λ (m : Mesh). m.points) h.mesh)) (longer_result (nat_abs v.side) (mesh_in (start_of v)) t)
+
+  old-positive : Each (IsPositive v.parts.points) (live_tets (start_of v).slots)
+  old-positive = positive-longer (start_of v).points v.parts.points longer (live_tets (start_of v).slots)
+      (cornered_tets (mesh_in (start_of v)) (well_formed v.side (start_of v) h.sound)) (recursion_from_All (IsPositive (start_of v).points) (live_tets (start_of v).slots) h.positive)
+
+  pub near-there : All (λ i. i < length v.parts.slots) (numbers_of (may_go t) 0 (start_of v).slots)
+  near-there = All-from_recursion (λ i. i < length v.parts.slots) (numbers_of (may_go t) 0 (start_of v).slots)
+      (each-number (may_go t) (λ i. i < length v.parts.slots) 0 (start_of v).slots (λ i l e. let g = h.grown.longer in omega arith))
+
+  pub near-positive : All (λ i. IsPositive v.parts.points (corners_at v.parts.slots i)) (numbers_of (may_go t) 0 (start_of v).slots)
+  near-positive = All-from_recursion (λ i. IsPositive v.parts.points (corners_at v.parts.slots i)) (numbers_of (may_go t) 0 (start_of v).slots)
+      (each-number (may_go t) (λ i. IsPositive v.parts.points (corners_at v.parts.slots i)) 0 (start_of v).slots one)
+    where
+      one : (i : ℕ) → i < length (start_of v).slots → may_go t (slot_at (start_of v).slots i) ≡ true → IsPositive v.parts.points (corners_at v.parts.slots (0 + i))
+      one i l e =
+          let live = (and_parts (slot_at (start_of v).slots i).live (is_near t (slot_at (start_of v).slots i).tet.0) (sym (may_go-is t (slot_at (start_of v).slots i)) ∙ e)).0 in
+          let p = live-each (IsPositive v.parts.points) (start_of v).slots old-positive i l live in
+          let z : 0 + i ≡ i = omega arith in
+          rw z (subst (IsPositive v.parts.points) (sym (ap (λ t. t.0) (h.grown.tets i l))) p)

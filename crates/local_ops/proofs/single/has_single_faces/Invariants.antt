@@ -1,0 +1,13 @@
+use Rattle.std.proofs.Common.{◌≡◌, drop}
+use Rattle.std.specs.Prelude.{nat_lt}
+use Rattle.std.specs.List.{list_all}
+use Rattle.grid.specs.Simplices.{count, faces}
+use Rattle.grid.specs.Views.{triples_of}
+use Rattle.mesh_store.specs.Parts.{live_tets}
+use Rattle.local_ops.proofs.single.has_single_faces.Given as goal
+
+abbrev pub invariant-loop-face : goal.invariant-loop-face
+invariant-loop-face l = record {
+  are : triples_of l.face-items ≡ faces l.fn.tet.0;
+  rest : list_all (λ g. nat_lt (count g (live_tets l.slots.slots)) 2) (triples_of (drop l.face-index l.face-items)) ≡ list_all (λ g. nat_lt (count g (live_tets l.slots.slots)) 2) (faces l.fn.tet.0);
+}

@@ -1,0 +1,13 @@
+use Rattle.std.proofs.Common.{arith}
+use Rattle.std.proofs.lemmas.Int.{ints}
+use Rattle.mesh_types.specs.Views.{mesh_of}
+use Rattle.local_ops.proofs.FirstStores.{positive-first}
+use Rattle.local_ops.proofs.tests.background_store.Goals as goal
+
+pub new-requires : goal.new-requires
+new-requires c =
+    let e = c.in_ok-start.ensures in
+    record { box = record { low = omega (arith, ints); high = omega (arith, ints) }; in_box = e.in_box; well_formed = e.well_formed; within = e.within_limits; made = e.made }
+
+pub returns-clause-positive : goal.returns-clause-positive
+returns-clause-positive c = positive-first c.new.result (mesh_of c.in_ok-start.start) c.in_ok-start.ensures.tiles.positive c.new.ensures.mesh

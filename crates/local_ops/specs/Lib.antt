@@ -1,0 +1,5 @@
+pub mod Measures
+pub mod Surface
+pub mod Covering
+pub mod Smoothing
+pub mod Attempts

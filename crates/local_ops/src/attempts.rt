@@ -1,0 +1,134 @@
+ghost use Rattle.local_ops.specs.Attempts.{IsBefore, IsMade, PassesBelow, start_of};
+ghost use Rattle.mesh_store.specs.Parts.{mesh_in};
+ghost use Rattle.mesh_store.specs.Sound.{IsSound};
+ghost use Rattle.mesh_types.specs.Journals.{AllPositive, NoFaceTwice, StaysSound, after, line, setting};
+ghost use Rattle.mesh_types.specs.Tries.{is_candidate};
+ghost use Rattle.mesh_types.specs.Verdicts.{IsVerdict};
+ghost use Rattle.std.specs.Prelude.{IfOk, None, OnErr, false, nat_abs, true, ◌≡◌, ◌≤◌};
+
+use crate::before::{Before, read};
+use crate::changing::change;
+use crate::judging::judge;
+use crate::refusals::refusal;
+use envelope_tree::Envelope;
+use grid::Memory;
+use mesh_store::{Store, StoreIssue};
+use mesh_types::{Try, Verdict, Why};
+use std::alloc::Global;
+
+/// Makes a try, and keeps it where no reason speaks against it. Where it is refused, and after want of
+/// memory, the mesh is as it was. The store is closed in every case.
+pub fn attempt(
+    alloc: Global,
+    store: &mut Store,
+    env: &Envelope,
+    e: u32,
+    attempt: Try,
+) -> Result<Verdict, Memory>
+    requires closed { store.old.at_begin ≡ None }
+    requires candidate { is_candidate (mesh_in store.old.parts).tets attempt ≡ true }
+    requires positive { AllPositive (mesh_in store.old.parts) }
+    requires e_least { 1 ≤ e }
+    requires e_most { e ≤ 4095 }
+    ensures verdict { IfOk result (λ v. IsVerdict (setting env.now e store.old.side) (mesh_in store.old.parts) attempt v) }
+    ensures mesh { IfOk result (λ v. mesh_in store.new.parts ≡ after (nat_abs store.old.side) (mesh_in store.old.parts) (line attempt v)) }
+    ensures memory { OnErr result (mesh_in store.new.parts ≡ mesh_in store.old.parts) }
+    ensures closed { store.new.at_begin ≡ None }
+    ensures side { store.new.side ≡ store.old.side }
+    ensures sound { StaysSound (setting env.now e store.old.side) (mesh_in store.old.parts) (mesh_in store.new.parts) }
+    ensures gone { NoFaceTwice (mesh_in store.old.parts)
+        → result ≡ Ok Verdict.Kept
+        → is_candidate (mesh_in store.new.parts).tets attempt ≡ false }
+{
+    // The type says what holds of the store.
+    let _ = store.slots();
+    try_out(alloc, store, env, e, attempt)
+}
+
+fn try_out(
+    alloc: Global,
+    store: &mut Store,
+    env: &Envelope,
+    e: u32,
+    attempt: Try,
+) -> Result<Verdict, Memory>
+    requires closed { store.old.at_begin ≡ None }
+    requires sound { IsSound store.old.side store.old.parts }
+    requires candidate { is_candidate (mesh_in store.old.parts).tets attempt ≡ true }
+    requires positive { AllPositive (mesh_in store.old.parts) }
+    requires e_most { e ≤ 4095 }
+    ensures verdict { IfOk result (λ v. IsVerdict (setting env.now e store.old.side) (mesh_in store.old.parts) attempt v) }
+    ensures mesh { IfOk result (λ v. mesh_in store.new.parts ≡ after (nat_abs store.old.side) (mesh_in store.old.parts) (line attempt v)) }
+    ensures memory { OnErr result (mesh_in store.new.parts ≡ mesh_in store.old.parts) }
+    ensures closed { store.new.at_begin ≡ None }
+    ensures side { store.new.side ≡ store.old.side }
+{
+    let found = refusal(alloc, store, attempt)?;
+    match found {
+        Some(why) => Ok(Verdict::Refused(why)),
+        None => make(alloc, store, env, e, attempt),
+    }
+}
+
+/// Makes a try that is not refused before.
+fn make(
+    alloc: Global,
+    store: &mut Store,
+    env: &Envelope,
+    e: u32,
+    attempt: Try,
+) -> Result<Verdict, Memory>
+    requires closed { store.old.at_begin ≡ None }
+    requires sound { IsSound store.old.side store.old.parts }
+    requires candidate { is_candidate (mesh_in store.old.parts).tets attempt ≡ true }
+    requires positive { AllPositive (mesh_in store.old.parts) }
+    requires e_most { e ≤ 4095 }
+    requires passed { PassesBelow (setting env.now e store.old.side) (mesh_in store.old.parts) attempt 3 }
+    ensures verdict { IfOk result (λ v. IsVerdict (setting env.now e store.old.side) (mesh_in store.old.parts) attempt v) }
+    ensures mesh { IfOk result (λ v. mesh_in store.new.parts ≡ after (nat_abs store.old.side) (mesh_in store.old.parts) (line attempt v)) }
+    ensures memory { OnErr result (mesh_in store.new.parts ≡ mesh_in store.old.parts) }
+    ensures closed { store.new.at_begin ≡ None }
+    ensures side { store.new.side ≡ store.old.side }
+{
+    let before = read(alloc, store, attempt)?;
+    match change(alloc, store, attempt) {
+        Ok(()) => settle(alloc, store, env, e, attempt, before),
+        Err(StoreIssue::Full) => Ok(Verdict::Refused(Why::Full)),
+        Err(StoreIssue::Memory) => Err(Memory),
+    }
+}
+
+/// Keeps the mesh that a try made, or gives back the mesh before it.
+fn settle(
+    alloc: Global,
+    store: &mut Store,
+    env: &Envelope,
+    e: u32,
+    attempt: Try,
+    before: Before,
+) -> Result<Verdict, Memory>
+    requires e_in { e ≤ 4095 }
+    requires made { IsMade attempt store.old }
+    requires before { IsBefore attempt (start_of store.old) before }
+    requires passed { PassesBelow (setting env.now e store.old.side) (mesh_in (start_of store.old)) attempt 4 }
+    ensures verdict { IfOk result (λ v. IsVerdict (setting env.now e store.old.side) (mesh_in (start_of store.old)) attempt v) }
+    ensures mesh { IfOk result (λ v. mesh_in store.new.parts ≡ after (nat_abs store.old.side) (mesh_in (start_of store.old)) (line attempt v)) }
+    ensures memory { OnErr result (mesh_in store.new.parts ≡ mesh_in (start_of store.old)) }
+    ensures closed { store.new.at_begin ≡ None }
+    ensures side { store.new.side ≡ store.old.side }
+{
+    match judge(alloc, store, env, e, attempt, &before) {
+        Ok(Verdict::Kept) => {
+            store.commit();
+            Ok(Verdict::Kept)
+        }
+        Ok(Verdict::Refused(why)) => {
+            store.rollback();
+            Ok(Verdict::Refused(why))
+        }
+        Err(Memory) => {
+            store.rollback();
+            Err(Memory)
+        }
+    }
+}
