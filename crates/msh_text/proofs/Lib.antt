@@ -1,2 +1,6 @@
 mod InRange
+mod KeptNodes
 mod Nodes
+pub mod Reading
+pub mod SaysText
+pub mod OneReading

@@ -1,5 +1,5 @@
 -- What the file of a mesh holds.
-use Rattle.std.specs.Prelude.{ℕ, ◌+◌, ℤ, pos, ◌+ℤ◌, ◌<◌, Bool, List, [], ◌∷◌, map, filter, slice_index_or, if◌then◌else◌, All}
+use Rattle.std.specs.Prelude.{ℕ, ◌+◌, ℤ, pos, ◌+ℤ◌, ◌<◌, ◌==◌, Bool, List, [], ◌∷◌, map, filter, slice_index_or, if◌then◌else◌, All}
 use Rattle.std.specs.List.{enumerate_from, list_any, zip}
 use Rattle.grid.specs.declared.shapes.Point.{Point}
 use Rattle.grid.specs.declared.shapes.Face.{Face}
@@ -49,6 +49,19 @@ face_of f = record { 0 = file_numbers f }
 abbrev pub msh_tracked : Mesh → List Face
 msh_tracked m = map face_of m.tracked
 
--- what the file holds of a mesh, for the tetrahedra that are outside and the shift of the box
-unfoldable pub msh_of : Mesh → List Bool → List ℤ → MshMesh
-msh_of m outside shift = record { nodes = msh_nodes m shift; tets = msh_tets m outside; tracked = msh_tracked m }
+-- what the file holds of a mesh, for the tetrahedra that are outside, the shift of the box and the digits behind the point
+unfoldable pub msh_of : Mesh → List Bool → List ℤ → ℕ → MshMesh
+msh_of m outside shift d = record { digits = d; nodes = msh_nodes m shift; tets = msh_tets m outside; tracked = msh_tracked m }
+
+-- ---- the kept part
+-- the tetrahedra of tag 1
+abbrev pub kept_tets : List MshTet → List MshTet
+kept_tets tets = filter (λ t. t.tag == 1) tets
+
+-- the nodes that some tetrahedron has
+abbrev pub nodes_of : List MshTet → List MshNode → List MshNode
+nodes_of tets nodes = filter (λ node. is_used (map (λ t. t.corners) tets) node.number) nodes
+
+-- the kept tetrahedra and the nodes that they have, without faces
+abbrev pub kept_part : MshMesh → MshMesh
+kept_part m = record { digits = m.digits; nodes = nodes_of (kept_tets m.tets) m.nodes; tets = kept_tets m.tets; tracked = [] }

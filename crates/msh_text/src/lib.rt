@@ -3,12 +3,22 @@
 //! outside, and a tracked face's is 3.
 #![tactic(auto)]
 
+mod elements;
 mod file_mesh;
+mod issue;
+mod kept;
+mod laws;
+mod marks;
 mod of_lists;
+mod read;
 #[cfg(test)]
 mod tests;
+mod whole;
 mod write;
 
 pub use file_mesh::{MshMesh, MshNode, MshTet};
+pub use issue::MshIssue;
+pub use laws::one_text_law;
 pub use of_lists::msh_of;
-pub use write::write_msh;
+pub use whole::read_msh;
+pub use write::{write_kept, write_msh};

@@ -1,0 +1,8 @@
+pub mod OneReading
+pub mod SaysText
+pub mod CertText
+pub mod OneOf
+pub mod Lists
+pub mod TopOfCert
+pub mod Head
+pub mod ReadsReport
