@@ -1,0 +1,10 @@
+pub mod Faults
+pub mod Steps
+pub mod Commands
+pub mod Numbers
+pub mod Names
+pub mod Sorting
+pub mod Views
+pub mod Answers
+pub mod Words
+pub mod Facts
