@@ -1,0 +1,5 @@
+mod Turning
+mod Certified
+pub mod Beginning
+mod Ending
+pub mod OneMesh

@@ -1,0 +1,74 @@
+ghost use Rattle.grid.specs.Boxes.{IsTriInBox};
+ghost use Rattle.grid.specs.Limits.{IsCells, IsSide};
+ghost use Rattle.mesher.specs.Meshed.{IsMeshed};
+ghost use Rattle.std.specs.Prelude.{All, IfOk, length, pos, ◌*◌, ◌^◌, ◌≤ℤ◌, ◌≤◌};
+
+use crate::coverings::coverings;
+use crate::turns::insert_all;
+use background::lattice;
+use envelope_tree::Envelope;
+use grid::Memory;
+use improve::{Improved, improve};
+use items::Items;
+use mesh_store::Store;
+use mesh_types::{End, Journal, Lists, Outcome};
+use report_text::Covering;
+use soup::Soup;
+use std::alloc::Global;
+
+/// The mesh of a soup, what became of each triangle and of each try, why the tries ended, and the
+/// certificates of the tracked faces, which are named by the numbers of the mesh file.
+#[derive(Debug, Drop)]
+pub struct Meshed {
+    pub mesh: Lists,
+    pub outcomes: Items<Outcome>,
+    pub journal: Journal,
+    pub end: End,
+    pub faces: Items<Covering>,
+}
+
+/// Meshes a placed soup: fills its box with the background lattice of `cells` cubes along each axis,
+/// inserts every triangle in turn, improves the mesh by at most `budget` tries, and finds the certificate
+/// of each tracked face for `epsilon` grid steps.
+pub fn mesh_soup(
+    alloc: Global,
+    soup: &Soup,
+    epsilon: u32,
+    cells: u32,
+    budget: u32,
+) -> Result<Meshed, Memory>
+    requires cells { IsCells cells }
+    requires side { IsSide soup.now.side }
+    requires room { pos (4 * cells) ≤ℤ soup.now.side }
+    requires few { length soup.now.triangles ≤ 2 ^ 24 }
+    requires inside { All (IsTriInBox (2 ^ 18)) soup.now.triangles }
+    requires e_least { 1 ≤ epsilon }
+    requires e_most { epsilon ≤ 4095 }
+    requires budget_most { budget ≤ 1000000 }
+    ensures { IfOk result (IsMeshed soup.now epsilon cells budget) }
+{
+    let env = Envelope::build(alloc, soup.triangles.as_slice())?;
+    let first = lattice(alloc, soup.side, cells)?;
+    let mut store = Store::new(alloc, &first, soup.side)?;
+    drop(first);
+    let outcomes = insert_all(alloc, &mut store, &env, epsilon)?;
+    // The type says what holds of the store, here and below.
+    let _ = store.slots();
+    let Improved { journal, end } = improve(alloc, &mut store, &env, epsilon, budget)?;
+    let _ = store.slots();
+    let mesh = store.lists(alloc)?;
+    let faces = coverings(
+        alloc,
+        &env,
+        mesh.points.as_slice(),
+        mesh.tracked.as_slice(),
+        epsilon,
+    )?;
+    Ok(Meshed {
+        mesh,
+        outcomes: Items::from_vec(outcomes),
+        journal,
+        end,
+        faces: Items::from_vec(faces),
+    })
+}
