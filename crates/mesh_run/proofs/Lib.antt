@@ -1,6 +1,7 @@
-mod FewWords
 mod Saying
 mod Writing
 mod Soups
 mod Making
 mod Working
+mod Answering
+mod OneOutput

@@ -1,78 +1,130 @@
 -- The texts that are made of an accepted input.
-use Rattle.std.proofs.Common.{◌≡◌, ℕ, ◌<◌, ◌≤◌, ◌^◌, ℤ, unsigned_abs, SFits, w32, lit≤, List, [], ◌++◌, length, map, get_or, codes, true, Bool, nat_abs, All, refl, sym, ap, subst, ◌∙◌, arith, lit<}
+use Rattle.std.proofs.Common.{◌≡◌, ◌≢◌, Option, Some, None, ℕ, ◌+◌, ◌<◌, ◌≤◌, ◌^◌, ℤ, unsigned_abs, SFits, w32, lit≤, List, [], ◌∷◌, ◌++◌, length, map, codes, decimal, count_by, cond, All, true, false, Bool, not, refl, sym, ap, subst, ◌∙◌, append_assoc, arith, lit<}
 use Rattle.std.proofs.lemmas.Fmt.{decimal_digit}
 use Rattle.std.proofs.Math.Nat.{pow-le-pow_right}
 use Rattle.std.proofs.lemmas.Int.{fits_signed_from_abs}
-use Rattle.std.proofs.lemmas.List.{same_lists, get_or_default, length-map, get_or-map}
-use Rattle.std.proofs.lemmas.List.Elements.{Contains-get_or}
-use Rattle.std.specs.List.{Contains}
-use Rattle.grid.specs.Boxes.{IsInBox}
+use Rattle.std.specs.List.{AllByRecursion as Each}
+use Rattle.std.proofs.lemmas.List.Elements.{All-cons, All-head, All-tail, All-from_recursion, recursion_from_All}
+use Rattle.std.proofs.lemmas.List.Kept.{AllPairs-cons}
 use Rattle.grid.specs.Limits.{IsSide}
-use Rattle.grid.specs.Meshes.{Mesh, IsWellFormed, Tiles}
-use Rattle.grid.specs.Regions.{AreRegions, IsOutside}
-use Rattle.mesh_types.specs.Lattice.{lattice}
-use Rattle.mesh_types.proofs.Outside.{all_outside_law}
+use Rattle.std.proofs.lemmas.List.{length-map}
+use Rattle.grid.specs.declared.shapes.Tet.{Tet}
+use Rattle.grid.specs.Meshes.{Mesh, IsTriple, IsWellFormed, IsWithinLimits}
+use Rattle.grid.specs.Simplices.{IsTet}
+use Rattle.grid.specs.Regions.{AreRegions}
+use Rattle.mesh_types.specs.Views.{mesh_of}
+use Rattle.mesh_types.specs.declared.lists.Lists.{Lists}
+use Rattle.mesh_types.specs.declared.outcome.Outcome.{Outcome}
+use Rattle.mesh_types.specs.declared.tries.End.{End}
+use Rattle.mesh_types.specs.declared.tries.Journal.{Journal}
+use Rattle.mesher.specs.declared.meshed.Meshed.{Meshed}
+use Rattle.mesher.specs.Meshed.{IsMeshed}
 use Rattle.soup.specs.declared.raw.Soup.{Soup}
 use Rattle.msh_text.specs.declared.file_mesh.MshMesh.{MshMesh}
-use Rattle.msh_text.specs.FileMesh.{msh_of}
+use Rattle.msh_text.specs.FileMesh.{AreInRange, msh_of}
 use Rattle.msh_text.specs.Text.{msh_text}
+use Rattle.report_text.specs.Text.{report_text}
 use Rattle.mesh_run.specs.declared.written.Texts.{Texts}
-use Rattle.mesh_run.specs.Words.{Asked}
-use Rattle.mesh_run.specs.Report.{report_text}
-use Rattle.mesh_run.specs.Summary.{summary_of, summary_line, mesh_counts, run_counts}
-use Rattle.mesh_run.specs.Made.{mesh_made, file_made, texts_made, IsSound}
+use Rattle.tet_words.specs.declared.job.MeshJob.{MeshJob}
+use Rattle.mesh_run.specs.Made.{file_of, files_of, kept_files, report_of, texts_of, IsMade}
+use Rattle.tet_words.specs.Facts.{AreDifferent, IsMeshJob}
+use Rattle.tet_words.specs.Words.{kept_names}
+use Rattle.mesh_run.specs.Written.{NamesDiffer}
+use Rattle.mesh_run.specs.declared.written.OutFile.{OutFile}
+use Rattle.mesh_run.specs.Summary.{summary_line, mesh_counts, outcome_counts, try_counts}
 
--- where every tetrahedron is outside, every answer is yes
-pub all_set : (tets tracked : List (List ℕ)) (flags : List Bool) → AreRegions tets tracked flags → ((x : List ℕ) → Contains tets x → IsOutside tets tracked x) → flags ≡ map (λ x. true) tets
-all_set tets tracked flags regions outside =
-    same_lists flags (map (λ x. true) tets) (regions.one_each ∙ sym (length-map tets (λ x. true)))
-    (λ k d h.
-    let below : k < length tets = omega (arith, h, regions.one_each) in
-    get_or_default flags k d true h
-    ∙ (regions.each k below).1 (outside (get_or tets k []) (Contains-get_or tets k [] below))
-    ∙ set_at tets k d below)
-  where
-    set_at : (tets : List (List ℕ)) (k : ℕ) (d : Bool) → k < length tets → true ≡ get_or (map (λ x. true) tets) k d
-    set_at tets k d below = sym (get_or-map (λ x. true) tets k [] d below)
+-- the texts are those of the mesh
+pub texts_are : (job : MeshJob) (soup : Soup) (made : Meshed) (regions : List Bool) (texts : Texts)
+    → texts.files ≡ files_of job (file_of soup made regions) (report_of job soup made)
+    → texts.line ≡ summary_line (file_of soup made regions) made.outcomes made.journal made.end
+    → texts ≡ texts_of job soup made regions
+unfolding texts_of
+texts_are job soup made regions texts files line = λ i. record { files = files i; line = line i }
 
--- the lattice tracks nothing
-tracks_nothing : (job : Asked) (soup : Soup) → (mesh_made job soup).tracked ≡ []
-unfolding lattice
-tracks_nothing job soup = refl
+-- two files and more, one behind the other
+pub two_files : (first second : OutFile) (more none one both all : List OutFile) → none ≡ [] → one ≡ none ++ first ∷ [] → both ≡ one ++ second ∷ [] → all ≡ both ++ more → all ≡ first ∷ second ∷ more
+two_files first second more none one both all empty push then_push at_last = at_last ∙ ap (λ fs. fs ++ more) (then_push ∙ ap (λ fs. fs ++ second ∷ []) (push ∙ ap (λ fs. fs ++ first ∷ []) empty))
 
--- every tetrahedron of the lattice is outside
-pub flags_set : (job : Asked) (soup : Soup) (m : Mesh) (flags : List Bool) → m ≡ mesh_made job soup → IsWellFormed m → Tiles m (nat_abs soup.side) → AreRegions m.tets m.tracked flags → flags ≡ map (λ x. true) m.tets
-flags_set job soup m flags is well tiles regions =
-    all_set m.tets m.tracked flags regions (all_outside_law m (nat_abs soup.side) well tiles (ap (λ n. n.tracked) is ∙ tracks_nothing job soup))
+-- a file by its name and its text
+pub file_is : (file : OutFile) (name text wanted : List ℕ) → file ≡ record { name = name; text = text } → text ≡ wanted → file ≡ record { name = name; text = wanted }
+file_is file name text wanted is same = is ∙ λ i. record { name = name; text = same i }
 
-pub sound_of : (job : Asked) (soup : Soup) (m : Mesh) (flags : List Bool) → m ≡ mesh_made job soup → All (IsInBox (nat_abs soup.side)) m.points → IsWellFormed m → Tiles m (nat_abs soup.side) → AreRegions m.tets m.tracked flags → IsSound job soup
-sound_of job soup m flags is in_box well tiles regions = record {
-  in_box = subst (λ (n : Mesh). All (IsInBox (nat_abs soup.side)) n.points) is in_box;
-  tiles = subst (λ (n : Mesh). Tiles n (nat_abs soup.side)) is tiles;
-  regions = subst (λ (n : Mesh). AreRegions n.tets n.tracked (map (λ x. true) n.tets)) is (subst (λ (fs : List Bool). AreRegions m.tets m.tracked fs) (flags_set job soup m flags is well tiles regions) regions);
-}
+-- ---- the names of the files
+named : (name : List ℕ) (fs : List OutFile) → All (λ n. name ≢ n) (map (λ (f : OutFile). f.name) fs) → All (λ (f : OutFile). name ≢ f.name) fs
+named name [] h = λ k d lt. absurd (omega (arith, lt))
+named name (f ∷ fs) h =
+    All-cons (λ (g : OutFile). name ≢ g.name) f fs
+    (All-head (λ n. name ≢ n) f.name (map (λ (g : OutFile). g.name) fs) h)
+    (named name fs (All-tail (λ n. name ≢ n) f.name (map (λ (g : OutFile). g.name) fs) h))
 
-file_is : (job : Asked) (soup : Soup) (m : Mesh) (flags : List Bool) (file : MshMesh) → m ≡ mesh_made job soup → flags ≡ map (λ x. true) m.tets → file ≡ msh_of m flags soup.shift → file ≡ file_made job soup
-unfolding file_made
-file_is job soup m flags file is set made =
-    made ∙ ap (λ fs. msh_of m fs soup.shift) set ∙ ap (λ (n : Mesh). msh_of n (map (λ x. true) n.tets) soup.shift) is
+differ : (fs : List OutFile) → AreDifferent (map (λ (f : OutFile). f.name) fs) → NamesDiffer fs
+differ [] h = λ i j d less lt. absurd (omega (arith, lt))
+differ (f ∷ fs) h = AllPairs-cons (λ (g k : OutFile). g.name ≢ k.name) f fs (named f.name fs h.0) (differ fs h.1)
 
-pub texts_are : (job : Asked) (soup : Soup) (m : Mesh) (flags : List Bool) (file : MshMesh) (texts : Texts) → m ≡ mesh_made job soup → flags ≡ map (λ x. true) m.tets → file ≡ msh_of m flags soup.shift → texts.mesh ≡ msh_text file → texts.report ≡ report_text job soup.side soup.shift → texts.line ≡ summary_line (summary_of file) → texts ≡ texts_made job soup
-unfolding texts_made
-texts_are job soup m flags file texts is set made mesh report line =
-    let file_path = file_is job soup m flags file is set made in
-    let mesh_path = mesh ∙ ap msh_text file_path in
-    let line_path = line ∙ ap (λ f. summary_line (summary_of f)) file_path in
-    λ i. record { mesh = mesh_path i; report = report i; line = line_path i }
+kept_same : (kept : Option (List ℕ)) (file : MshMesh) → map (λ (f : OutFile). f.name) (kept_files kept file) ≡ kept_names kept
+kept_same (Some name) file = refl
+kept_same None file = refl
 
--- nothing was inserted or tried
-runs_nothing : (file : MshMesh) → codes " inserted 0 rolled-back 0 tries 0 end stopped\n" ≡ run_counts (summary_of file)
-runs_nothing file = ap (λ zero_digits. codes " inserted " ++ zero_digits ++ codes " rolled-back " ++ zero_digits ++ codes " tries " ++ zero_digits ++ codes " end stopped\n") (sym (decimal_digit 0 (lit< tt)))
+-- the files have the names of the job
+pub names_differ : (job : MeshJob) (soup : Soup) (texts : Texts) → IsMeshJob job → IsMade job soup texts → NamesDiffer texts.files
+unfolding texts_of
+names_differ job soup texts is_job made =
+    let file = file_of soup made.made made.regions in
+    subst (λ (t : Texts). NamesDiffer t.files) (sym made.texts_are)
+    (differ (files_of job file (report_of job soup made.made))
+    (subst (λ ns. AreDifferent (job.mesh ∷ job.report ∷ ns)) (sym (kept_same job.kept file)) is_job.names.different.1))
 
-pub line_is : (file : MshMesh) (empty counted whole : List ℕ) → empty ≡ [] → counted ≡ empty ++ mesh_counts (summary_of file) → whole ≡ counted ++ codes " inserted 0 rolled-back 0 tries 0 end stopped\n" → whole ≡ summary_line (summary_of file)
+-- the report without the side's other name
+pub report_is : (job : MeshJob) (soup : Soup) (made : Meshed) (side : ℤ) → side ≡ soup.side → record (report_of job soup made) { side = side } ≡ report_of job soup made
+report_is job soup made side same = λ i. record (report_of job soup made) { side = same i }
+
+-- ---- the summary
+-- four pieces, one behind the other
+pub four_pieces : (out a b d e f g h k : List ℕ) → f ≡ out ++ a → g ≡ f ++ b → h ≡ g ++ d → k ≡ h ++ e → k ≡ out ++ (a ++ b ++ d ++ e)
+four_pieces out a b d e f g h k first second third fourth =
+    fourth
+    ∙ (ap (λ t. t ++ e) (third ∙ ap (λ t. t ++ d) (second ∙ (ap (λ t. t ++ b) first ∙ append_assoc out a b)) ∙ append_assoc out (a ++ b) d)
+    ∙ append_assoc out (a ++ b ++ d) e)
+
+pub line_is : (file : MshMesh) (outcomes : List Outcome) (journal : Journal) (end : End) (empty counted told whole : List ℕ)
+    → empty ≡ []
+    → counted ≡ empty ++ mesh_counts file
+    → told ≡ counted ++ outcome_counts outcomes
+    → whole ≡ told ++ try_counts journal end
+    → whole ≡ summary_line file outcomes journal end
 unfolding summary_line
-line_is file empty counted whole none first second =
-    second ∙ ap (λ t. t ++ codes " inserted 0 rolled-back 0 tries 0 end stopped\n") (first ∙ ap (λ t. t ++ mesh_counts (summary_of file)) none) ∙ ap (λ t. mesh_counts (summary_of file) ++ t) (runs_nothing file)
+line_is file outcomes journal end empty counted told whole none first second third =
+    let begun = first ∙ ap (λ t. t ++ mesh_counts file) none in
+    let gone_on = second ∙ ap (λ t. t ++ outcome_counts outcomes) begun in
+    third ∙ ap (λ t. t ++ try_counts journal end) gone_on
+
+-- ---- what the mesh file asks of a mesh
+each-tet : (n : ℕ) (ts : List (List ℕ)) → Each (IsTet n) ts → Each (λ x. All (λ c. c < n) x) ts
+each-tet n [] h = tt
+each-tet n (t ∷ ts) h = (h.0.in_range, each-tet n ts h.1)
+
+each-triple : (n : ℕ) (ts : List (List ℕ)) → Each (IsTriple n) ts → Each (λ x. All (λ c. c < n) x) ts
+each-triple n [] h = tt
+each-triple n (t ∷ ts) h = (h.0.in_range, each-triple n ts h.1)
+
+pub tets-in_range : (m : Mesh) → IsWellFormed m → AreInRange (length m.points) m.tets
+tets-in_range m w = All-from_recursion (λ x. All (λ c. c < length m.points) x) m.tets (each-tet (length m.points) m.tets (recursion_from_All (IsTet (length m.points)) m.tets w.tets_are))
+
+pub tracked-in_range : (m : Mesh) → IsWellFormed m → AreInRange (length m.points) m.tracked
+tracked-in_range m w = All-from_recursion (λ x. All (λ c. c < length m.points) x) m.tracked (each-triple (length m.points) m.tracked (recursion_from_All (IsTriple (length m.points)) m.tracked w.triples_are))
+
+-- a mesh within the limits has not too many tetrahedra for the regions
+pub few-tets : (m : Lists) → IsWellFormed (mesh_of m) → IsWithinLimits (mesh_of m) → length m.tets ≤ 16777216
+few-tets m w l =
+    let made : length (map (λ (t : Tet). t.0) m.tets) ≤ m.made = w.made_is in
+    let limit : m.made ≤ 4194304 = l.made_few in
+    let same : length (map (λ (t : Tet). t.0) m.tets) ≡ length m.tets = length-map m.tets (λ (t : Tet). t.0) in
+    omega (arith, made, limit, same)
+
+-- coordinates are written without digits behind the point
+pub no-digits : (m : Mesh) (regions : List Bool) (shift : List ℤ) (file : MshMesh) → file ≡ msh_of m regions shift 0 → file.digits ≤ 5
+unfolding msh_of
+no-digits m regions shift file is = let none : file.digits ≡ 0 = ap (λ (f : MshMesh). f.digits) is in omega (arith, none)
 
 -- the side of a box fits its type
 pub side-SFits : (side : ℤ) → IsSide side → SFits w32 side

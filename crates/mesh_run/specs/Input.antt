@@ -1,12 +1,12 @@
 -- What a run makes of the bytes of its input.
-use Rattle.std.specs.Prelude.{ℕ, ◌^◌, nat_lt, if◌then◌else◌, List, [], ◌∷◌, ◌++◌, length, codes, decimal, Result, Ok, Err}
+use Rattle.std.specs.Prelude.{ℕ, ◌^◌, nat_lt, if◌then◌else◌, List, ◌++◌, length, codes, decimal, Result, Ok, Err}
 use Rattle.soup.specs.declared.raw.Raw.{Raw}
 use Rattle.soup.specs.declared.raw.Soup.{Soup}
 use Rattle.soup.specs.Placement.{extent, room, placed}
 use Rattle.off_text.specs.declared.issue.OffKind.{OffKind}
 use Rattle.off_text.specs.declared.issue.OffKind.TheVariants.{NoKeyword, OtherKeyword, BadCount, Ended, BadNumber, NotWhole, TooLarge, BadIndex, ShortFace, TooMany}
 use Rattle.off_text.specs.Grammar.{Refusal, reads}
-use Rattle.mesh_run.specs.Words.{Asked}
+use Rattle.tet_words.specs.declared.job.MeshJob.{MeshJob}
 use Rattle.mesh_run.specs.Printed.{too_long_line}
 
 -- the most bytes of a file that is read
@@ -34,25 +34,21 @@ kind_text TooMany = codes ": too many\n"
 abbrev pub off_line : OffKind → ℕ → List ℕ
 off_line kind place = codes "tetsoup: input: byte " ++ (decimal place ++ kind_text kind)
 
-abbrev pub not_built_line : List ℕ
-not_built_line = codes "tetsoup: input: not built yet\n"
-
 abbrev pub too_wide_line : ℕ → List ℕ
 too_wide_line wide = codes "tetsoup: input: extent " ++ (decimal wide ++ codes " is too wide\n")
 
 -- ---- the input
--- the soup in its box; a soup with triangles is refused, and one for which no box has room
-abbrev pub soup_in : Asked → Raw → List (List ℕ) → Result Soup (List ℕ)
-soup_in job raw [] =
+-- the soup in its box; one for which no box has room is refused
+abbrev pub soup_in : MeshJob → Raw → Result Soup (List ℕ)
+soup_in job raw =
     if nat_lt longest_side (room raw job.epsilon)
     then Err (too_wide_line (extent raw))
     else Ok (placed raw job.epsilon job.cells)
-soup_in job raw (f ∷ fs) = Err not_built_line
 
-abbrev pub text_in : Asked → Result Raw Refusal → Result Soup (List ℕ)
-text_in job (Ok raw) = soup_in job raw raw.faces
+abbrev pub text_in : MeshJob → Result Raw Refusal → Result Soup (List ℕ)
+text_in job (Ok raw) = soup_in job raw
 text_in job (Err refusal) = Err (off_line refusal.kind refusal.place)
 
 -- the placed soup of an input that is accepted, or the line of its refusal
-abbrev pub input_of : Asked → List ℕ → Result Soup (List ℕ)
+abbrev pub input_of : MeshJob → List ℕ → Result Soup (List ℕ)
 input_of job bytes = if nat_lt most_bytes (length bytes) then Err (too_long_line job.input) else text_in job (reads bytes)

@@ -5,7 +5,7 @@ use Rattle.mesh_io.specs.declared.read.ReadIssue.{ReadIssue}
 use Rattle.mesh_io.specs.declared.read.ReadIssue.TheVariants as read_issue
 use Rattle.mesh_run.specs.declared.input.InputIssue.{InputIssue}
 use Rattle.mesh_run.specs.declared.input.InputIssue.TheVariants as input_issue
-use Rattle.mesh_run.specs.Input.{off_line, not_built_line, too_wide_line}
+use Rattle.mesh_run.specs.Input.{off_line, too_wide_line}
 use Rattle.mesh_run.specs.Printed.{missing_line, read_failed_line, too_long_line, memory_line}
 
 -- of a file that was not read
@@ -24,19 +24,16 @@ read_status read_issue.Memory = 6
 -- of an input that was read
 abbrev pub input_line : InputIssue → List ℕ
 input_line (input_issue.Off kind place) = off_line kind place
-input_line input_issue.NotBuilt = not_built_line
 input_line (input_issue.TooWide wide) = too_wide_line wide
 input_line input_issue.Memory = memory_line
 
 abbrev pub input_status : InputIssue → ℕ
 input_status (input_issue.Off kind place) = 3
-input_status input_issue.NotBuilt = 3
 input_status (input_issue.TooWide wide) = 3
 input_status input_issue.Memory = 6
 
 -- the issue is the refusal of the input, or a want of memory
 abbrev pub Explains : InputIssue → Result Soup (List ℕ) → Type 0
 Explains (input_issue.Off kind place) input = input ≡ Err (off_line kind place)
-Explains input_issue.NotBuilt input = input ≡ Err not_built_line
 Explains (input_issue.TooWide wide) input = input ≡ Err (too_wide_line wide)
 Explains input_issue.Memory input = Unit {0}

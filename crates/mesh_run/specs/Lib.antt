@@ -1,6 +1,4 @@
 pub mod Words
-pub mod JobView
-pub mod Report
 pub mod Summary
 pub mod Printed
 pub mod Input

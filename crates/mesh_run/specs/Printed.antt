@@ -1,5 +1,7 @@
 -- Printed lines.
 use Rattle.std.specs.Prelude.{◌⊎◌, ℕ, List, ◌++◌, take, codes}
+use Rattle.tet_words.specs.declared.fault.WordFault.{WordFault}
+use Rattle.tet_words.specs.Faults.{fault_text}
 use Rattle.mesh_io.specs.Sink.{SinkState, SinkCall, SinkRose, Appended}
 
 -- the line was written, or after a fault a front of it
@@ -12,8 +14,8 @@ pub record Says (before after : SinkState) (line : List ℕ) : Type 0 where
 abbrev pub named : List ℕ → List ℕ → List ℕ
 named name rest = codes "tetsoup: " ++ name ++ rest
 
-abbrev pub words_line : List ℕ
-words_line = codes "tetsoup: words: not built yet\n"
+abbrev pub words_line : WordFault → List ℕ
+words_line fault = codes "tetsoup: words: " ++ (fault_text fault ++ codes "\n")
 
 abbrev pub too_long_line : List ℕ → List ℕ
 too_long_line name = named name (codes ": too long\n")

@@ -1,40 +1,27 @@
 -- The line that sums up a run.
-use Rattle.std.specs.Prelude.{ℕ, Bool, false, nat_eq, if◌then◌else◌, List, ◌++◌, length, count_by, codes, decimal}
+use Rattle.std.specs.Prelude.{ℕ, not, nat_eq, List, ◌++◌, length, count_by, codes, decimal}
+use Rattle.mesh_types.specs.declared.outcome.Outcome.{Outcome}
+use Rattle.mesh_types.specs.Turns.{is_rolled_back}
+use Rattle.mesh_types.specs.declared.tries.End.{End}
+use Rattle.mesh_types.specs.declared.tries.Journal.{Journal}
+use Rattle.report_text.specs.Rules.{end_text}
 use Rattle.msh_text.specs.declared.file_mesh.MshMesh.{MshMesh}
 
--- the nodes and tetrahedra written, the tracked faces, the kept tetrahedra, the triangles inserted and rolled back, the tries,
--- and whether the tries came to an end by themselves
-pub record Summary : Type 0 where
-  pub points : ℕ
-  pub tets : ℕ
-  pub tracked : ℕ
-  pub kept : ℕ
-  pub inserted : ℕ
-  pub rolled_back : ℕ
-  pub tries : ℕ
-  pub settled : Bool
+-- the nodes and tetrahedra written, the tracked faces, and the kept tetrahedra
+abbrev pub mesh_counts : MshMesh → List ℕ
+mesh_counts m =
+    codes "points " ++ decimal (length m.nodes) ++ codes " tets " ++ decimal (length m.tets) ++ codes " tracked " ++ decimal (length m.tracked)
+    ++ codes " kept " ++ decimal (count_by (λ t. nat_eq t.tag 1) m.tets)
 
--- the summary of a mesh file made without triangles and tries
-abbrev pub summary_of : MshMesh → Summary
-summary_of m = record {
-  points = length m.nodes;
-  tets = length m.tets;
-  tracked = length m.tracked;
-  kept = count_by (λ t. nat_eq t.tag 1) m.tets;
-  inserted = 0;
-  rolled_back = 0;
-  tries = 0;
-  settled = false;
-}
+-- the triangles that were inserted, and those that were rolled back
+abbrev pub outcome_counts : List Outcome → List ℕ
+outcome_counts outcomes =
+    codes " inserted " ++ decimal (count_by (λ o. not (is_rolled_back o)) outcomes) ++ codes " rolled-back " ++ decimal (count_by is_rolled_back outcomes)
 
-abbrev pub mesh_counts : Summary → List ℕ
-mesh_counts s =
-    codes "points " ++ decimal s.points ++ codes " tets " ++ decimal s.tets ++ codes " tracked " ++ decimal s.tracked ++ codes " kept " ++ decimal s.kept
+-- the tries, and why there are no more
+abbrev pub try_counts : Journal → End → List ℕ
+try_counts journal end = codes " tries " ++ decimal (length journal.lines) ++ codes " " ++ end_text end
 
-abbrev pub run_counts : Summary → List ℕ
-run_counts s =
-    codes " inserted " ++ decimal s.inserted ++ codes " rolled-back " ++ decimal s.rolled_back ++ codes " tries " ++ decimal s.tries
-    ++ (if s.settled then codes " end settled\n" else codes " end stopped\n")
-
-unfoldable pub summary_line : Summary → List ℕ
-summary_line s = mesh_counts s ++ run_counts s
+-- the line of a run
+unfoldable pub summary_line : MshMesh → List Outcome → Journal → End → List ℕ
+summary_line m outcomes journal end = mesh_counts m ++ outcome_counts outcomes ++ try_counts journal end

@@ -1,14 +1,13 @@
 // The soup of the input, placed in its box.
-ghost use Rattle.std.specs.Prelude.{◌≡◌, ◌++◌, ◌<◌, ◌≤◌, ◌≤ℤ◌, ◌*◌, ◌^◌, pos, unsigned_abs, All, Ok, IfOk, IfErr};
+ghost use Rattle.std.specs.Prelude.{◌≡◌, ◌++◌, ◌<◌, ◌≤◌, ◌≤ℤ◌, ◌*◌, ◌^◌, pos, length, unsigned_abs, All, Ok, IfOk, IfErr};
+ghost use Rattle.grid.specs.Boxes.{IsTriInBox};
 ghost use Rattle.grid.specs.Limits.{IsCells, IsSide};
 ghost use Rattle.off_text.specs.Grammar.{reads};
 ghost use Rattle.mesh_io.specs.Sink.{SinkState};
 ghost use Rattle.mesh_run.specs.Input.{kind_text, text_in};
 ghost use Rattle.mesh_run.specs.Issues.{Explains, input_line, input_status, read_line, read_status};
-ghost use Rattle.mesh_run.specs.JobView.{asked_by};
 ghost use Rattle.mesh_run.specs.Printed.{Says};
 
-use crate::job::Job;
 use crate::say::{say, say_name, say_three};
 use crate::status;
 use itoa::Buffer;
@@ -16,37 +15,35 @@ use mesh_io::{ReadIssue, Sink};
 use off_text::{OffIssue, OffKind, read_off};
 use soup::{PlaceIssue, Soup, place};
 use std::alloc::Global;
+use tet_words::MeshJob;
 
 /// Why an input that was read gives no soup.
 #[derive(Clone, Copy)]
 pub enum InputIssue {
     /// Its text is refused at a byte.
     Off { kind: OffKind, place: u64 },
-    /// It has triangles.
-    NotBuilt,
     /// No box has room for this extent.
     TooWide(u64),
     Memory,
 }
 
 /// The soup of the bytes of an input, in its box.
-pub fn soup_of(alloc: Global, job: &Job<'_>, bytes: &[u8]) -> Result<Soup, InputIssue>
+pub fn soup_of(alloc: Global, job: &MeshJob, bytes: &[u8]) -> Result<Soup, InputIssue>
     requires cells { IsCells job.now.cells }
     requires epsilon { (1 ≤ job.now.epsilon) × (job.now.epsilon ≤ 4095) }
     ensures side { IfOk result (λ soup. IsSide soup.side) }
     ensures room { IfOk result (λ soup. pos (4 * job.now.cells) ≤ℤ soup.side) }
     ensures shift { IfOk result (λ soup. All (λ s. unsigned_abs s ≤ 2 * 10 ^ 9) soup.shift) }
-    ensures ok { IfOk result (λ soup. text_in (asked_by job.now) (reads bytes.now) ≡ Ok soup) }
-    ensures err { IfErr result (λ issue. Explains issue (text_in (asked_by job.now) (reads bytes.now))) }
+    ensures few { IfOk result (λ soup. length soup.triangles ≤ 2 ^ 20) }
+    ensures inside { IfOk result (λ soup. All (IsTriInBox (2 ^ 18)) soup.triangles) }
+    ensures ok { IfOk result (λ soup. text_in job.now (reads bytes.now) ≡ Ok soup) }
+    ensures err { IfErr result (λ issue. Explains issue (text_in job.now (reads bytes.now))) }
 {
     let raw = match read_off(alloc, bytes) {
         Ok(raw) => raw,
         Err(OffIssue::At { kind, place }) => return Err(InputIssue::Off { kind, place }),
         Err(OffIssue::Memory) => return Err(InputIssue::Memory),
     };
-    if raw.faces.len() > 0 {
-        return Err(InputIssue::NotBuilt);
-    }
     match place(alloc, &raw, job.epsilon, job.cells) {
         Ok(soup) => Ok(soup),
         Err(PlaceIssue::TooWide(extent)) => Err(InputIssue::TooWide(extent)),
@@ -86,10 +83,6 @@ pub fn refuse_input<O: Sink>(issue: InputIssue, out: &mut O) -> u8
                 digits.as_bytes(),
                 kind_text(kind),
             );
-            status::INPUT
-        }
-        InputIssue::NotBuilt => {
-            say(out, b"tetsoup: input: not built yet\n");
             status::INPUT
         }
         InputIssue::TooWide(extent) => {

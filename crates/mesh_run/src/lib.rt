@@ -2,16 +2,17 @@
 #![tactic(auto)]
 
 mod input;
-mod job;
+mod laws;
 mod made;
 mod program;
 mod put;
-mod report;
 mod say;
 mod status;
 mod summary;
 #[cfg(test)]
 mod tests;
+mod words;
 mod written;
 
+pub use laws::one_output_law;
 pub use program::run;

@@ -1,39 +1,37 @@
 // The program: its words, its input, its texts and its writes in turn.
-ghost use Rattle.std.specs.Prelude.{◌≡◌, ◌≢◌, ◌≤◌, ◌⊎◌, map};
-ghost use Rattle.grid.specs.Limits.{IsCells};
-ghost use Rattle.mesh_run.specs.JobView.{asked_by};
+ghost use Rattle.std.specs.Prelude.{map};
+ghost use Rattle.tet_words.specs.Facts.{IsMeshJob};
 ghost use Rattle.mesh_run.specs.Run.{Answers, Works};
 
 use crate::input::{refuse_input, refuse_read, soup_of};
-use crate::job::{Job, job_of};
-use crate::made::texts_of;
-use crate::say::say;
+use crate::made::make;
+use crate::say::{say, say_three};
 use crate::status;
+use crate::words::mesh_job;
 use crate::written::write_texts;
 use grid::Memory;
 use mesh_io::{Folder, Sink, read_all};
 use std::alloc::Global;
+use tet_words::{MeshJob, WordsIssue};
 
 // The most bytes of a file that is read.
 const MOST_BYTES: usize = 1 << 30;
 
-fn work<F: Folder, O: Sink>(alloc: Global, job: &Job<'_>, folder: &mut F, out: &mut O) -> u8
-    requires different { job.now.mesh.now ≢ job.now.report.now }
-    requires cells { IsCells job.now.cells }
-    requires epsilon { (1 ≤ job.now.epsilon) × (job.now.epsilon ≤ 4095) }
-    ensures { Works (asked_by job.now) (F.state folder.old) (F.state folder.new) (O.state out.old) (O.state out.new) result }
+fn work<F: Folder, O: Sink>(alloc: Global, job: &MeshJob, folder: &mut F, out: &mut O) -> u8
+    requires { IsMeshJob job.now }
+    ensures { Works job.now (F.state folder.old) (F.state folder.new) (O.state out.old) (O.state out.new) result }
 {
-    let bytes = match read_all(alloc, folder, job.input, MOST_BYTES) {
+    let bytes = match read_all(alloc, folder, job.input.as_str(), MOST_BYTES) {
         Ok(bytes) => bytes,
-        Err(issue) => return refuse_read(job.input, issue, out),
+        Err(issue) => return refuse_read(job.input.as_str(), issue, out),
     };
     let soup = match soup_of(alloc, job, &bytes) {
         Ok(soup) => soup,
         Err(issue) => return refuse_input(issue, out),
     };
     drop(bytes);
-    match texts_of(alloc, job, &soup) {
-        Ok(texts) => write_texts(job, &texts, folder, out),
+    match make(alloc, job, &soup) {
+        Ok(texts) => write_texts(&texts, folder, out),
         Err(Memory) => {
             say(out, b"tetsoup: out of memory\n");
             status::MEMORY
@@ -50,11 +48,15 @@ fn work<F: Folder, O: Sink>(alloc: Global, job: &Job<'_>, folder: &mut F, out: &
 pub fn run<F: Folder, O: Sink>(alloc: Global, words: &[&str], folder: &mut F, out: &mut O) -> u8
     ensures { Answers (map (λ w. w.now) words.now) (F.state folder.old) (F.state folder.new) (O.state out.old) (O.state out.new) result }
 {
-    match job_of(words) {
-        None => {
-            say(out, b"tetsoup: words: not built yet\n");
+    match mesh_job(alloc, words) {
+        Ok(job) => work(alloc, &job, folder, out),
+        Err(WordsIssue::Refused(fault)) => {
+            say_three(out, b"tetsoup: words: ", fault.text().as_bytes(), b"\n");
             status::WORDS
         }
-        Some(job) => work(alloc, &job, folder, out),
+        Err(WordsIssue::Memory) => {
+            say(out, b"tetsoup: out of memory\n");
+            status::MEMORY
+        }
     }
 }

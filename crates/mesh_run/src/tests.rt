@@ -170,71 +170,45 @@ fn output_fails(rt: HostRuntime) -> Result<(), Fail> {
     Ok(())
 }
 
-const REFUSED_WORDS: [&[&str]; 9] = [
-    &[],
-    &[
-        "check", "IN.off", "OUT.msh", "REPORT", "--cells", "1", "--budget", "0",
-    ],
-    &[
-        "mesh", "IN.off", "OUT.msh", "OUT.msh", "--cells", "1", "--budget", "0",
-    ],
-    &[
-        "mesh", "IN.off", "OUT.msh", "-", "--cells", "1", "--budget", "0",
-    ],
-    &[
-        "mesh", "IN.off", "OUT.msh", "REPORT", "--cells", "3", "--budget", "0",
-    ],
-    &[
-        "mesh", "IN.off", "OUT.msh", "REPORT", "--cells", "1", "--budget", "1",
-    ],
-    &[
-        "mesh",
-        "IN.off",
-        "OUT.msh",
-        "REPORT",
-        "--cells",
-        "1",
-        "--budget",
-        "0",
-        "--epsilon",
-    ],
-    &[
-        "mesh",
-        "IN.off",
-        "OUT.msh",
-        "REPORT",
-        "--cells",
-        "1",
-        "--budget",
-        "0",
-        "--epsilon",
-        "4096",
-    ],
-    &[
-        "mesh",
-        "IN.off",
-        "OUT.msh",
-        "REPORT",
-        "--cells",
-        "1",
-        "--budget",
-        "0",
-        "--epsilon",
-        "00000000001",
-    ],
+const REFUSED_WORDS: [(&[&str], &[u8]); 7] = [
+    (&[], b"tetsoup: words: no command\n"),
+    (
+        &["check", "IN.off", "OUT.msh", "REPORT"],
+        b"tetsoup: words: unknown command\n",
+    ),
+    (
+        &["mesh", "IN.off", "OUT.msh"],
+        b"tetsoup: words: bad words\n",
+    ),
+    (
+        &["mesh", "IN.off", "OUT.msh", "REPORT", "--digits", "2"],
+        b"tetsoup: words: bad words\n",
+    ),
+    (
+        &["mesh", "IN.off", "OUT.msh", "REPORT", "--epsilon=0"],
+        b"tetsoup: words: epsilon must be 1 to 4095\n",
+    ),
+    (
+        &["mesh", "IN.off", "OUT.msh", "REPORT", "--cells", "3"],
+        b"tetsoup: words: cells must be 1, 2, 4, 8, 16 or 32\n",
+    ),
+    (
+        &["mesh", "IN.off", "IN.off", "REPORT"],
+        b"tetsoup: words: two names are equal\n",
+    ),
 ];
 
 #[test]
-fn other_words_are_refused(rt: HostRuntime) -> Result<(), Fail> {
+fn words_are_refused(rt: HostRuntime) -> Result<(), Fail> {
     let alloc = rt.alloc();
-    for words in REFUSED_WORDS {
+    for (words, line) in REFUSED_WORDS {
         let ran = ran(alloc, words, EMPTY, Vec::new(alloc), 4096)?;
-        assert_refused(&rt, &ran, 2, b"tetsoup: words: not built yet\n");
+        assert_refused(&rt, &ran, 2, line);
     }
     Ok(())
 }
 
-const REFUSED_INPUTS: [(&[u8], &[u8]); 7] = [
+const REFUSED_INPUTS: [(&[u8], &[u8]); 6] = [
     (
         b"OFF\n3 1 0\n0 0 0\n1 0 0\n0 1 0\n3 0 1",
         b"tetsoup: input: byte 33: ended early\n",
@@ -256,12 +230,8 @@ const REFUSED_INPUTS: [(&[u8], &[u8]); 7] = [
         b"tetsoup: input: extent 262137 is too wide\n",
     ),
     (
-        b"OFF\n3 1 0\n0 0 0\n1 0 0\n0 1 0\n3 0 1 2\n",
-        b"tetsoup: input: not built yet\n",
-    ),
-    (
         b"OFF\n3 1 0\n0 0 0\n900000 0 0\n0 1 0\n3 0 1 2\n",
-        b"tetsoup: input: not built yet\n",
+        b"tetsoup: input: extent 900000 is too wide\n",
     ),
 ];
 
@@ -323,6 +293,24 @@ fn epsilon_widens_the_box(rt: HostRuntime) -> Result<(), Fail> {
     Ok(())
 }
 
+const TRIES: &[u8] =
+    b"tetsoup report 1\nepsilon 2\ncells 1\nbudget 2\nbox 16\nshift 0 0 0\ntriangles 0\ntries 2\nsplit 1 2 refused worse\nsplit 1 3 refused worse\nend stopped\ntracked 0\n";
+
+#[test]
+fn tries_of_a_cube(rt: HostRuntime) -> Result<(), Fail> {
+    let alloc = rt.alloc();
+    let mut words = WORDS;
+    words[7] = "2";
+    let ran = ran(alloc, &words, EMPTY, Vec::new(alloc), 4096)?;
+    assert_eq!(rt; ran.status, 0);
+    assert_eq!(rt; ran.folder.bytes("REPORT").ok_or("a report")?, TRIES);
+    assert_eq!(rt;
+        ran.out.bytes(),
+        b"points 8 tets 6 tracked 0 kept 0 inserted 0 rolled-back 0 tries 2 end stopped\n".as_slice()
+    );
+    Ok(())
+}
+
 #[test]
 fn eight_cubes(rt: HostRuntime) -> Result<(), Fail> {
     let alloc = rt.alloc();
@@ -336,3 +324,5 @@ fn eight_cubes(rt: HostRuntime) -> Result<(), Fail> {
     );
     Ok(())
 }
+
+mod surfaces;

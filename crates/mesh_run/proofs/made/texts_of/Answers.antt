@@ -1,34 +1,46 @@
-use Rattle.std.proofs.Common.{ap, subst, ◌∙◌, nat_abs, All, SFits, w32, to_z-of_z}
-use Rattle.grid.specs.Boxes.{IsInBox}
-use Rattle.grid.specs.Meshes.{Tiles}
-use Rattle.mesh_types.specs.Lattice.{lattice}
+use Rattle.std.proofs.Common.{◌≡◌, ◌∙◌, ap, length, refl, to_z-of_z}
+use Rattle.grid.specs.declared.shapes.Tet.{Tet}
 use Rattle.mesh_types.specs.Views.{mesh_of}
-use Rattle.mesh_run.specs.JobView.{asked_by}
-use Rattle.mesh_run.specs.Report.{report_text}
-use Rattle.mesh_run.proofs.Making.{side-SFits, flags_set, sound_of, texts_are}
+use Rattle.msh_text.specs.declared.file_mesh.MshMesh.{MshMesh}
+use Rattle.mesh_run.specs.Made.{files_of}
+use Rattle.mesh_run.specs.Summary.{summary_line}
+use Rattle.std.proofs.lemmas.List.{length-map}
+use Rattle.mesh_run.proofs.Making.{few-tets, tets-in_range, tracked-in_range, no-digits, report_is, side-SFits, texts_are}
 use Rattle.mesh_run.proofs.made.texts_of.Goals as goal
 
-pub returns-clause-texts : goal.returns-clause-texts
-returns-clause-texts c =
-    let fits : SFits w32 c.args.soup.now.side = side-SFits c.args.soup.now.side c.requires.side in
-    let whole = to_z-of_z fits in
-    let is = c.in_ok-mesh.ensures.is ∙ ap (λ z. lattice (nat_abs z) c.args.job.now.cells) whole in
-    let tiles = subst (λ z. Tiles (mesh_of c.in_ok-mesh.mesh) (nat_abs z)) whole c.in_ok-mesh.ensures.tiles in
-    let regions = rw (c.as_slice.ensures, c.as_slice-2.ensures) at c.in_ok-outside.ensures in
-    texts_are (asked_by c.args.job.now) c.args.soup.now (mesh_of c.in_ok-mesh.mesh) c.in_ok-outside.outside.items c.in_ok-file.file _
-    is
-    (flags_set (asked_by c.args.job.now) c.args.soup.now (mesh_of c.in_ok-mesh.mesh) c.in_ok-outside.outside.items is c.in_ok-mesh.ensures.well_formed tiles regions)
-    (rw c.deref.ensures.value at c.in_ok-file.ensures)
-    (c.from_vec.ensures ∙ c.in_ok-write_msh.ensures)
-    (c.from_vec-2.ensures ∙ c.in_ok-write_report.ensures ∙ ap (λ z. report_text (asked_by c.args.job.now) z c.args.soup.now.shift) whole)
-    (c.from_vec-3.ensures ∙ c.in_ok-write_summary.ensures)
+pub outside-requires : goal.outside-requires
+outside-requires c = rw c.as_slice.ensures (few-tets c.args.made.mesh c.requires.meshed.well_formed c.requires.meshed.within)
 
-pub returns-clause-sound : goal.returns-clause-sound
-returns-clause-sound c =
-    let fits : SFits w32 c.args.soup.now.side = side-SFits c.args.soup.now.side c.requires.side in
-    let whole = to_z-of_z fits in
-    let is = c.in_ok-mesh.ensures.is ∙ ap (λ z. lattice (nat_abs z) c.args.job.now.cells) whole in
-    let tiles = subst (λ z. Tiles (mesh_of c.in_ok-mesh.mesh) (nat_abs z)) whole c.in_ok-mesh.ensures.tiles in
-    let regions = rw (c.as_slice.ensures, c.as_slice-2.ensures) at c.in_ok-outside.ensures in
-    let in_box = subst (λ z. All (IsInBox (nat_abs z)) c.in_ok-mesh.mesh.points) whole c.in_ok-mesh.ensures.in_box in
-    sound_of (asked_by c.args.job.now) c.args.soup.now (mesh_of c.in_ok-mesh.mesh) c.in_ok-outside.outside.items is in_box c.in_ok-mesh.ensures.well_formed tiles regions
+pub msh_of-requires-clause-tets : goal.msh_of-requires-clause-tets
+msh_of-requires-clause-tets c = tets-in_range (mesh_of c.args.made.mesh) c.requires.meshed.well_formed
+
+pub msh_of-requires-clause-tracked : goal.msh_of-requires-clause-tracked
+msh_of-requires-clause-tracked c = tracked-in_range (mesh_of c.args.made.mesh) c.requires.meshed.well_formed
+
+pub msh_of-requires-clause-few_points : goal.msh_of-requires-clause-few_points
+msh_of-requires-clause-few_points c = c.requires.meshed.within.points_few
+
+pub msh_of-requires-clause-one_each : goal.msh_of-requires-clause-one_each
+msh_of-requires-clause-one_each c =
+    ap length c.deref.ensures.value ∙ (c.in_ok-outside.ensures.one_each ∙ (length-map c.as_slice.result.now (λ (t : Tet). t.0) ∙ ap length c.as_slice.ensures))
+
+pub files_of-requires-clause-digits : goal.files_of-requires-clause-digits
+files_of-requires-clause-digits c = no-digits (mesh_of c.args.made.mesh) c.deref.result.now c.args.soup.now.shift c.in_ok-file.file c.in_ok-file.ensures
+
+pub returns : goal.returns
+returns c =
+    let soup = c.args.soup.now in
+    let made = c.args.made in
+    let job = c.args.job.now in
+    let regions = c.in_ok-outside.outside.items in
+    let file_is = rw c.deref.ensures.value at c.in_ok-file.ensures in
+    let line_is = rw c.as_slice-3.ensures at c.in_ok-line.ensures in
+    record {
+      made = made;
+      meshed = c.requires.meshed;
+      regions = regions;
+      are_regions = rw (c.as_slice.ensures, c.as_slice-2.ensures) at c.in_ok-outside.ensures;
+      texts_are = texts_are job soup made regions _
+          (c.in_ok-files_of.ensures ∙ λ i. files_of job (file_is i) (report_is job soup made _ (to_z-of_z (side-SFits soup.side c.requires.side)) i))
+          (c.from_vec.ensures ∙ (line_is ∙ ap (λ (f : MshMesh). summary_line f made.outcomes made.journal made.end) file_is));
+    }

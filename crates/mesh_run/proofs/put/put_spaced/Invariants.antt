@@ -1,7 +1,0 @@
-use Rattle.std.proofs.Common.{◌≡◌, ◌∷◌, ◌++◌, take}
-use Rattle.std.specs.List.{flat_map}
-use Rattle.std.specs.Fmt.{signed_decimal}
-use Rattle.mesh_run.proofs.put.put_spaced.Given as goal
-
-abbrev pub invariant-loop-z : goal.invariant-loop-z
-invariant-loop-z l = l.out.items ≡ l.initial.out.items ++ flat_map (λ z. 32 ∷ signed_decimal z) (take l.z-index l.numbers)
