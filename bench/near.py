@@ -15,7 +15,7 @@ import tempfile
 from pathlib import Path
 
 from built import build
-from measured import TOP, best
+from measured import TOP, best, table, write_section
 
 CALLS = 10_000_000
 
@@ -32,18 +32,21 @@ def float_program(folder):
 
 
 def main():
+    lines, parts = [], ""
     with tempfile.TemporaryDirectory() as name:
         folder = Path(name)
         rows = {"exact": exact_program(folder), "float": float_program(folder)}
         for label, program in rows.items():
-            status, printed, seconds, _ = best([program], folder)
-            if status != 0:
-                sys.exit(f"{label} ended with status {status}")
-            lines = printed.split("\n")
-            print(f"{label}: {lines[0]} near, {CALLS / seconds / 1e6:.2f} million calls a second")
-            if lines[1]:
-                face, edge, corner = (int(n) / CALLS for n in lines[1].split())
-                print(f"closest point: interior {face:.0%}, edge {edge:.0%}, corner {corner:.0%}")
+            done = best([program], folder)
+            if done.status != 0:
+                sys.exit(f"{label} ended with status {done.status}")
+            found, regions, *_ = done.printed.split("\n")
+            lines.append([label, found, f"{CALLS / done.seconds / 1e6:.2f}", f"{done.megabytes:.1f}"])
+            if regions:
+                face, edge, _ = (f"{int(n) / CALLS:.0%}" for n in regions.split())
+                parts = f"The closest point lay inside for {face}, on an edge for {edge}, else at a corner."
+    about = f"The distance test over {CALLS} random points and triangles, and in floating point.\n{parts}"
+    write_section("near.py", about, table(["test", "near", "million calls a second", "MiB"], lines))
 
 
 if __name__ == "__main__":

@@ -1,8 +1,8 @@
 #!/usr/bin/env python3
 """Times `mesh` on OFF files up to the limits (2^20 vertices and 2^20 triangles), up to its answer.
 
-Beside it `cat` of the same file, and where they are installed `gmsh` and `meshio` reading it. Prints
-one row per file: vertices, bytes, seconds and megabytes of each. The fastest of three runs counts.
+Beside it `cat` of the same file, and where they are installed `gmsh` and `meshio` reading it. What does not
+read the file is said to have failed, and has no time.
 """
 
 import random
@@ -10,9 +10,12 @@ import shutil
 import subprocess
 import sys
 import tempfile
+from importlib.util import find_spec
 from pathlib import Path
 
-from measured import best, program
+from measured import best, program, table, write_section
+
+ABOUT = "Seconds and MiB for an OFF file with as many triangles as vertices; of `mesh` up to its answer."
 
 
 def write_soup(path, count):
@@ -21,7 +24,7 @@ def write_soup(path, count):
     with open(path, "w", encoding="ascii") as file:
         file.write(f"OFF\n{count} {count} 0\n")
         for _ in range(count):
-            file.write(f"{numbers.randrange(200000)} {numbers.randrange(200000)} {numbers.randrange(200000)}\n")
+            file.write(" ".join(str(numbers.randrange(200000)) for _ in range(3)) + "\n")
         for i in range(count):
             file.write(f"3 {i} {(i + 1) % count} {numbers.randrange(count)}\n")
 
@@ -29,29 +32,34 @@ def write_soup(path, count):
 def readers(path):
     """What else is installed that reads the file."""
     if shutil.which("gmsh"):
-        yield "gmsh", ["gmsh", "-0", path, "-o", "read.msh"]
-    if subprocess.run([sys.executable, "-c", "import meshio"], capture_output=True, check=False).returncode == 0:
-        yield "meshio", [sys.executable, "-c", f"import meshio; meshio.read({path!r})"]
+        yield "gmsh", ["sh", "-c", f"rm -f read.msh && gmsh -0 {path} -o read.msh && test -s read.msh"]
+    if find_spec("meshio"):
+        yield "meshio", [sys.executable, "-c", f"import meshio; assert len(meshio.read({path!r}).points) > 0"]
+
+
+def measured(name, words, folder):
+    """Seconds and memory of a command, or that it failed. `mesh` may refuse the soup after it has read it."""
+    done = best(words, folder, output=subprocess.DEVNULL if name == "cat" else subprocess.PIPE)
+    if done.status != 0 and not (name == "mesh" and done.status == 3):
+        if name == "mesh":
+            sys.exit(f"mesh ended with status {done.status}: {done.printed}")
+        return f"failed with status {done.status}"
+    return f"{done.seconds:.3f}, {done.megabytes:.1f}"
 
 
 def main():
-    mesh = program()
-    print(f"{'vertices':>9} {'bytes':>10}  command: seconds, megabytes")
+    mesh, lines, names = program(), [], []
     with tempfile.TemporaryDirectory() as folder:
         for power in (14, 17, 20):
             path = str(Path(folder, "in.off"))
             write_soup(path, 2**power)
-            row = [("cat", ["cat", path])]
-            row.append(("mesh", [mesh, "mesh", "in.off", "out.msh", "report", "--cells", "4", "--budget", "0"]))
-            row.extend(readers(path))
-            times = []
-            for name, words in row:
-                output = subprocess.DEVNULL if name == "cat" else subprocess.PIPE
-                status, printed, seconds, kilobytes = best(words, folder, output=output)
-                if name == "mesh" and status not in (0, 3):
-                    sys.exit(f"mesh ended with status {status}: {printed}")
-                times.append(f"{name}: {seconds:.3f}, {kilobytes / 1024:.1f}")
-            print(f"{2**power:9} {Path(path).stat().st_size:10}  " + "   ".join(times))
+            commands = {"cat": ["cat", path]}
+            commands["mesh"] = [mesh, "mesh", "in.off", "out.msh", "report", "--cells", "4", "--budget", "0"]
+            commands.update(readers(path))
+            names = list(commands)
+            figures = [measured(name, words, folder) for name, words in commands.items()]
+            lines.append([f"{2**power}", f"{Path(path).stat().st_size}", *figures])
+    write_section("off.py", ABOUT, table(["vertices", "bytes", *names], lines))
 
 
 if __name__ == "__main__":

@@ -1,9 +1,9 @@
 #!/usr/bin/env python3
-"""Times one turn of the store: open, refine by one edge, roll back; over lattices of three sizes.
+"""Times two uses of the store, over lattices of four sizes.
 
-Prints for each number of tetrahedra the microseconds of a turn. The time of making the mesh and the
-store is taken off: it is that of a run without turns. The searches of the store are scans so far, so
-that the time grows with the mesh: this is the figure that an index has to beat.
+Gives for each number of tetrahedra the microseconds of a turn (open, refine by one edge, roll back) and
+of a search for the tetrahedra at a point. The time of making the mesh and the store is taken off: it is that
+of a run without turns and searches. Both figures should hardly grow with the mesh.
 """
 
 import sys
@@ -11,16 +11,20 @@ import tempfile
 from pathlib import Path
 
 from built import build
-from measured import TOP, best
+from measured import TOP, best, table, write_section
 
-SIZES = {4: (2, 40000), 8: (3, 8000), 16: (4, 1000)}  # cells: the power of two that they are, and the turns
-CRATES = ["mesh_store", "background", "mesh_types", "grid"]
+CELLS = {4: 2, 8: 3, 16: 4, 32: 5}  # the power of two that each is
+TIMES = 500000
+ABOUT = "The store over a lattice: a turn (begin, refine by one edge, roll back), and a search for the tetrahedra at a point."
+CRATES = ["mesh_store", "tet_slots", "background", "mesh_types", "grid"]
 
 
-def program(folder, cells, power, turns):
+def program(folder, cells, power, turns, searches):
     here = TOP / "bench" / "store"
     source = (here / "main.rt.txt").read_text()
-    source = source.replace("CELLS: u32 = 4", f"CELLS: u32 = {cells}").replace("TURNS: u32 = 1000", f"TURNS: u32 = {turns}")
+    for name, value in (("CELLS", cells), ("TURNS", turns), ("SEARCHES", searches)):
+        before, _, after = source.partition(f"const {name}: u32 = ")
+        source = f"{before}const {name}: u32 = {value};{after.partition(';')[2]}"
     answers = (here / "all_turns_answers.antt.txt").read_text().replace("power = 2;", f"power = {power};", 1)
     files = {
         "src/main.rt": source,
@@ -31,20 +35,22 @@ def program(folder, cells, power, turns):
     return build(folder, "store_bench", CRATES, files)
 
 
-def seconds(folder, cells, power, turns):
-    status, printed, taken, _ = best([program(folder, cells, power, turns)], folder)
-    if status != 0 or int(printed) != turns:
-        sys.exit(f"the program ended with status {status} and printed {printed}")
-    return taken
+def seconds(folder, cells, power, turns, searches):
+    done = best([program(folder, cells, power, turns, searches)], folder)
+    if done.status != 0 or done.printed.split() != [str(turns), str(searches)]:
+        sys.exit(f"the program ended with status {done.status} and printed {done.printed}")
+    return done.seconds
 
 
 def main():
-    print(f"{'tets':>6} {'microseconds a turn':>20}")
+    lines = []
     with tempfile.TemporaryDirectory() as name:
-        for cells, (power, turns) in SIZES.items():
-            whole = seconds(Path(name), cells, power, turns)
-            nothing = seconds(Path(name), cells, power, 0)
-            print(f"{6 * cells**3:6} {(whole - nothing) / turns * 1e6:20.1f}")
+        for cells, power in CELLS.items():
+            nothing = seconds(Path(name), cells, power, 0, 0)
+            turned = seconds(Path(name), cells, power, TIMES, 0) - nothing
+            found = seconds(Path(name), cells, power, 0, TIMES) - nothing
+            lines.append([f"{6 * cells**3}", f"{turned / TIMES * 1e6:.2f}", f"{found / TIMES * 1e6:.2f}"])
+    write_section("store.py", ABOUT, table(["tetrahedra", "microseconds a turn", "microseconds a search"], lines))
 
 
 if __name__ == "__main__":

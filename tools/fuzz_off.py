@@ -26,9 +26,9 @@ WORDS = ["mesh", "in.off", "out.msh", "report", "--cells", "2", "--budget", "0"]
 DONE = re.compile(r"points \d+ tets 48 tracked 0 kept 0 inserted 0 rolled-back 0 tries 0 end stopped\n")
 REFUSED = re.compile(r"tetsoup: input: (byte \d+: [A-Za-z ]+|extent \d+ is too wide|not built yet)\n")
 PIECES = [
-    b"OFF", b"COFF", b"BINARY", b"#", b"\n", b"\r\n", b"\r", b"\t", b" ", b"\0", b"\xff", b"-", b"+", b".", b"e9",
-    b"1e", b"8.000", b"0.5", b"-0", b"1000000000", b"1000000001", b"-1000000000", b"9" * 40, b"1048576", b"1048577",
-    b"4294967296", b"3 0 1 2\n", b"3", b"2", b"0", b"262136", b"\xef\xbb\xbf",
+    b"OFF", b"COFF", b"BINARY", b"#", b"\n", b"\r\n", b"\r", b"\t", b" ", b"\0", b"\xff", b"-", b"+", b".",
+    b"e9", b"1e", b"8.000", b"0.5", b"-0", b"1000000000", b"1000000001", b"-1000000000", b"9" * 40,
+    b"1048576", b"1048577", b"4294967296", b"3 0 1 2\n", b"3", b"2", b"0", b"262136", b"\xef\xbb\xbf",
 ]
 
 
@@ -59,7 +59,9 @@ def fault(mesh, folder, text):
     Path(folder, "in.off").write_bytes(text)
     seconds = 5 + len(text) / 1e6
     try:
-        done = subprocess.run([mesh, *WORDS], cwd=folder, capture_output=True, timeout=seconds, preexec_fn=limit, check=False)
+        done = subprocess.run(
+            [mesh, *WORDS], cwd=folder, capture_output=True, timeout=seconds, preexec_fn=limit, check=False
+        )
     except subprocess.TimeoutExpired:
         return "no answer in time"
     line = done.stdout.decode(errors="replace")
