@@ -6,7 +6,7 @@ use Rattle.mesh_io.specs.Folder.{FolderState}
 use Rattle.mesh_io.specs.Sink.{SinkState}
 use Rattle.mesh_run.specs.Words.{asked_of}
 use Rattle.mesh_run.specs.Printed.{Says, words_line, memory_line}
-use Rattle.mesh_run.specs.Run.{NothingWritten, IsOutOfMemory, Works, Answers}
+use Rattle.mesh_run.specs.Run.{IsOutOfMemory, Works, Answers}
 
 fault_clash : {X : Type 0} (r : Result MeshJob WordFault) (job : MeshJob) (fault : WordFault) → r ≡ Ok job → r ≡ Err fault → X
 fault_clash r job fault f g = cc

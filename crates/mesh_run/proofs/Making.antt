@@ -1,6 +1,5 @@
 -- The texts that are made of an accepted input.
-use Rattle.std.proofs.Common.{◌≡◌, ◌≢◌, Option, Some, None, ℕ, ◌+◌, ◌<◌, ◌≤◌, ◌^◌, ℤ, unsigned_abs, SFits, w32, lit≤, List, [], ◌∷◌, ◌++◌, length, map, codes, decimal, count_by, cond, All, true, false, Bool, not, refl, sym, ap, subst, ◌∙◌, append_assoc, arith, lit<}
-use Rattle.std.proofs.lemmas.Fmt.{decimal_digit}
+use Rattle.std.proofs.Common.{◌≡◌, ◌≢◌, Option, Some, None, ℕ, ◌<◌, ◌≤◌, ◌^◌, ℤ, unsigned_abs, SFits, w32, lit≤, List, [], ◌∷◌, ◌++◌, length, map, All, Bool, refl, sym, ap, subst, ◌∙◌, append_assoc, arith}
 use Rattle.std.proofs.Math.Nat.{pow-le-pow_right}
 use Rattle.std.proofs.lemmas.Int.{fits_signed_from_abs}
 use Rattle.std.specs.List.{AllByRecursion as Each}
@@ -11,19 +10,15 @@ use Rattle.std.proofs.lemmas.List.{length-map}
 use Rattle.grid.specs.declared.shapes.Tet.{Tet}
 use Rattle.grid.specs.Meshes.{Mesh, IsTriple, IsWellFormed, IsWithinLimits}
 use Rattle.grid.specs.Simplices.{IsTet}
-use Rattle.grid.specs.Regions.{AreRegions}
 use Rattle.mesh_types.specs.Views.{mesh_of}
 use Rattle.mesh_types.specs.declared.lists.Lists.{Lists}
 use Rattle.mesh_types.specs.declared.outcome.Outcome.{Outcome}
 use Rattle.mesh_types.specs.declared.tries.End.{End}
 use Rattle.mesh_types.specs.declared.tries.Journal.{Journal}
 use Rattle.mesher.specs.declared.meshed.Meshed.{Meshed}
-use Rattle.mesher.specs.Meshed.{IsMeshed}
 use Rattle.soup.specs.declared.raw.Soup.{Soup}
 use Rattle.msh_text.specs.declared.file_mesh.MshMesh.{MshMesh}
 use Rattle.msh_text.specs.FileMesh.{AreInRange, msh_of}
-use Rattle.msh_text.specs.Text.{msh_text}
-use Rattle.report_text.specs.Text.{report_text}
 use Rattle.mesh_run.specs.declared.written.Texts.{Texts}
 use Rattle.tet_words.specs.declared.job.MeshJob.{MeshJob}
 use Rattle.mesh_run.specs.Made.{file_of, files_of, kept_files, report_of, texts_of, IsMade}

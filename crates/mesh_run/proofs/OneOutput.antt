@@ -1,5 +1,5 @@
 -- A job and its soup have one output.
-use Rattle.std.proofs.Common.{◌≡◌, ℕ, ◌<◌, List, [], ◌∷◌, Bool, true, false, length, get_or, IsTrue, refl, sym, ap, ◌∙◌, subst, arith}
+use Rattle.std.proofs.Common.{◌≡◌, ℕ, ◌<◌, List, Bool, true, false, length, get_or, IsTrue, refl, sym, ◌∙◌, subst, arith}
 use Rattle.std.proofs.lemmas.List.{same_lists, get_or_default}
 use Rattle.grid.specs.Meshes.{Mesh}
 use Rattle.grid.specs.Regions.{AreRegions}
@@ -8,11 +8,7 @@ use Rattle.mesher.specs.declared.meshed.Meshed.{Meshed}
 use Rattle.mesher.specs.Meshed.{IsSameMesh}
 use Rattle.mesher.proofs.OneMesh.{one_mesh}
 use Rattle.soup.specs.declared.raw.Soup.{Soup}
-use Rattle.msh_text.specs.declared.file_mesh.MshMesh.{MshMesh}
 use Rattle.msh_text.specs.FileMesh.{msh_of}
-use Rattle.msh_text.specs.Text.{msh_text}
-use Rattle.report_text.specs.Text.{report_text}
-use Rattle.mesh_run.specs.declared.written.Texts.{Texts}
 use Rattle.tet_words.specs.declared.job.MeshJob.{MeshJob}
 use Rattle.mesh_run.specs.Made.{file_of, files_of, report_of, texts_of, OneMade}
 use Rattle.mesh_run.specs.Summary.{summary_line}

@@ -1,10 +1,9 @@
 -- What the writes of a run leave, by the first that failed.
-use Rattle.std.proofs.Common.{◌≡◌, ◌≢◌, ◌⊎◌, inl, inr, ℕ, ◌+◌, ◌<◌, ◌≤◌, suc, true, List, [], ◌∷◌, ◌++◌, length, take, drop, get_or, Option, None, Some, Ok, Err, All, refl, sym, ap, subst, ◌∙◌, arith}
+use Rattle.std.proofs.Common.{◌≡◌, ◌≢◌, ◌⊎◌, inl, inr, ℕ, ◌+◌, ◌<◌, ◌≤◌, suc, true, List, [], ◌∷◌, ◌++◌, length, take, drop, get_or, None, Some, Ok, Err, All, refl, sym, ap, subst, ◌∙◌, arith}
 use Rattle.std.proofs.lemmas.List.{get_or_append_left, take_more, take_all, get_or-take, get_or_default, length-append, length-take}
 use Rattle.std.proofs.lemmas.List.Elements.{All-append, All-cons}
 use Rattle.std.proofs.Math.Seq.{get_or-append_seam, split_at}
-use Rattle.mesh_io.specs.Faults.{OnlyRises}
-use Rattle.mesh_io.specs.Folder.{FolderState, Files, Puts, SameKind, SameFiles, WriteCall, IsCreated}
+use Rattle.mesh_io.specs.Folder.{FolderState, Files, Puts, SameFiles, WriteCall}
 use Rattle.mesh_io.specs.Sink.{SinkState}
 use Rattle.mesh_io.specs.Write.{WritesFile, WritesAll, HoldsFront}
 use Rattle.mesh_io.specs.declared.folder.Failed.{Failed}
@@ -12,7 +11,7 @@ use Rattle.mesh_io.proofs.Calls.{WriteCall-trans, WriteRose-after}
 use Rattle.mesh_run.specs.Printed.{Says, write_failed_line}
 use Rattle.mesh_run.specs.declared.written.OutFile.{OutFile}
 use Rattle.mesh_run.specs.declared.written.Texts.{Texts}
-use Rattle.mesh_run.specs.Written.{NamesDiffer, Holds, IsOther, AreWhole, last_written, IsUncreated, IsCutShort, IsCutAt, IsFileFault, WritesFiles, Writes}
+use Rattle.mesh_run.specs.Written.{NamesDiffer, Holds, IsOther, AreWhole, last_written, IsCutAt, IsFileFault, WritesFiles, Writes}
 
 -- ---- all of a list with one more
 all_front : {X : Type 0} (P : X → Type 0) (xs : List X) (y : X) → All P (xs ++ y ∷ []) → All P xs

@@ -71,7 +71,7 @@ pub record Works (job : MeshJob) (old new : FolderState) (before after : SinkSta
   pub out_of_memory : status ≡ 6 → IsOutOfMemory old new before after
   -- a refused input is answered 3 where no read failed
   pub refused_there : old.told ≡ true → (line : List ℕ) → Refuses job old line → ReadRose old new ⊎ ((status ≡ 3) ⊎ (status ≡ 6))
-  -- an input that is not there is answered 4
+  -- an input that is not there is answered 4, unless memory ran out before it was opened
   pub missing_there : old.told ≡ true → old.files job.input ≡ None → (status ≡ 4) ⊎ (status ≡ 6)
   -- an accepted input is answered 0 where nothing failed
   pub accepted_there : old.told ≡ true → (soup : Soup) → Gives job old soup → ReadRose old new ⊎ (WriteRose old new ⊎ (SinkRose before after ⊎ ((status ≡ 0) ⊎ (status ≡ 6))))

@@ -1,4 +1,4 @@
-use Rattle.std.proofs.Common.{◌≡◌, ◌∙◌, ap, length, refl, to_z-of_z}
+use Rattle.std.proofs.Common.{◌∙◌, ap, length, to_z-of_z}
 use Rattle.grid.specs.declared.shapes.Tet.{Tet}
 use Rattle.mesh_types.specs.Views.{mesh_of}
 use Rattle.msh_text.specs.declared.file_mesh.MshMesh.{MshMesh}
