@@ -3,14 +3,14 @@ use Rattle.std.proofs.Common.{◌≡◌, ℕ, ◌*◌, ◌^◌, ◌<◌, ◌≤�
 use Rattle.std.proofs.lemmas.Bool.{lt-ltb, le-ltb}
 use Rattle.off_text.specs.declared.issue.OffKind.{OffKind}
 use Rattle.off_text.specs.declared.issue.OffKind.TheVariants.{BadNumber, NotWhole, TooLarge}
-use Rattle.off_text.specs.Numbers.{Parts, decimal, is_well_formed, is_whole, signed, value_of, coordinate_of, is_negative, parts_of, without_sign, with_fraction, digits_of, after_digits}
+use Rattle.off_text.specs.Numbers.{Parts, decimal, is_well_formed, is_whole, signed, value_of, whole_coordinate, is_negative, parts_of, without_sign, with_fraction, digits_of, after_digits}
 use Rattle.off_text.proofs.Tokens.{by_test}
 use Rattle.off_text.proofs.Decimals.{front_passes}
 use Rattle.std.specs.List.{list_all}
 use Rattle.std.specs.Char.{is_ascii_digit}
 
-pub coordinate_by : (word : List ℕ) (p : Parts) (answer : Result ℤ OffKind) → p ≡ parts_of (without_sign word) → value_of (is_negative word) p ≡ answer → coordinate_of word ≡ answer
-unfolding coordinate_of
+pub coordinate_by : (word : List ℕ) (p : Parts) (answer : Result ℤ OffKind) → p ≡ parts_of (without_sign word) → value_of (is_negative word) p ≡ answer → whole_coordinate word ≡ answer
+unfolding whole_coordinate
 coordinate_by word p answer is h = sym (ap (value_of (is_negative word)) is) ∙ h
 
 -- ---- the tests in turn

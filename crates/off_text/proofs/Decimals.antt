@@ -70,8 +70,3 @@ not_number word h = ap (λ t. not (is_empty word) && t) (not_all_pass is_ascii_d
 pub number_is : (word : List ℕ) → eqb (length word) 0 ≡ false → length word ≤ prefix_len is_ascii_digit word → is_number word ≡ true
 number_is [] h few = absurd (true≢false h)
 number_is (b ∷ bs) h few = all_pass is_ascii_digit (b ∷ bs) few
-
--- the leading bytes, one after the other
-pub leading_goes_on : (test : ℕ → Bool) (i total : ℕ) (bs : List ℕ) → i < length bs → test (slice_index bs i) ≡ true → i + prefix_len test (drop i bs) ≡ total → (i + 1) + prefix_len test (drop (i + 1) bs) ≡ total
-leading_goes_on test i total bs lt is h =
-    let one : prefix_len test (drop i bs) ≡ 1 + prefix_len test (drop (i + 1) bs) = ap (prefix_len test) (cut bs i lt) ∙ passes test _ _ is in omega arith

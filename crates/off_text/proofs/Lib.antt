@@ -5,3 +5,9 @@ pub mod Coordinates
 pub mod Loops
 pub mod Whole
 pub mod WithinLimits
+pub mod Numerals
+pub mod Rounded
+pub mod WrittenWords
+pub mod WrittenNumbers
+pub mod ReadBack
+pub mod Writing

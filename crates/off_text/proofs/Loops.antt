@@ -1,5 +1,5 @@
 -- Reading one thing after the other, as a loop does.
-use Rattle.std.proofs.Common.{◌≡◌, ℕ, suc, ◌+◌, ◌-◌, ◌<◌, ◌≤◌, List, [], ◌∷◌, ◌++◌, length, drop, Result, Ok, Err, refl, sym, ap, ◌∙◌, subst, append_assoc, arith, ℤ}
+use Rattle.std.proofs.Common.{◌≡◌, ℕ, suc, ◌+◌, ◌-◌, ◌<◌, ◌≤◌, List, [], ◌∷◌, ◌++◌, length, drop, Option, Result, Ok, Err, refl, sym, ap, ◌∙◌, subst, append_assoc, arith, ℤ}
 use Rattle.std.proofs.lemmas.List.{append-nil, length-append, drop-drop}
 use Rattle.off_text.specs.declared.issue.OffIssue.{OffIssue}
 use Rattle.off_text.specs.declared.issue.OffIssue.TheVariants as issues
@@ -31,26 +31,26 @@ vertices_then : (front : List (List ℤ)) (v : List ℤ) (said : Reading (List (
 vertices_then front v (Ok x) = ap (λ (vs : List (List ℤ)). Ok (vs, x.1)) (simp append_assoc)
 vertices_then front v (Err r) = refl
 
-pub vertices_go_on : (front : List (List ℤ)) (end count i : ℕ) (ws : List Word) (v : List ℤ) (after : List Word) (total : Reading (List (List ℤ))) → i < count → vertex end ws ≡ Ok (v, after)
-    → with_front front (vertices end (count - i) ws) ≡ total → with_front (front ++ v ∷ []) (vertices end (count - (i + 1)) after) ≡ total
+pub vertices_go_on : (digits : Option ℕ) (front : List (List ℤ)) (end count i : ℕ) (ws : List Word) (v : List ℤ) (after : List Word) (total : Reading (List (List ℤ))) → i < count → vertex digits end ws ≡ Ok (v, after)
+    → with_front front (vertices digits end (count - i) ws) ≡ total → with_front (front ++ v ∷ []) (vertices digits end (count - (i + 1)) after) ≡ total
 unfolding vertices
-vertices_go_on front end count i ws v after total lt is h =
+vertices_go_on digits front end count i ws v after total lt is h =
     let left : count - i ≡ suc (count - (i + 1)) = omega arith in
-    sym (ap (λ n. with_front front (vertices end n ws)) left ∙ ap (λ r. with_front front (r >>= λ x. vertices end (count - (i + 1)) x.1 >>= λ others. Ok (x.0 ∷ others.0, others.1))) is ∙ vertices_then front v (vertices end (count - (i + 1)) after)) ∙ h
+    sym (ap (λ n. with_front front (vertices digits end n ws)) left ∙ ap (λ r. with_front front (r >>= λ x. vertices digits end (count - (i + 1)) x.1 >>= λ others. Ok (x.0 ∷ others.0, others.1))) is ∙ vertices_then front v (vertices digits end (count - (i + 1)) after)) ∙ h
 
-pub vertices_fail : (e : OffIssue) (front : List (List ℤ)) (end count i : ℕ) (ws : List Word) (total : Reading (List (List ℤ))) → i < count → Fails e (vertex end ws)
-    → with_front front (vertices end (count - i) ws) ≡ total → Fails e total
+pub vertices_fail : (digits : Option ℕ) (e : OffIssue) (front : List (List ℤ)) (end count i : ℕ) (ws : List Word) (total : Reading (List (List ℤ))) → i < count → Fails e (vertex digits end ws)
+    → with_front front (vertices digits end (count - i) ws) ≡ total → Fails e total
 unfolding vertices
-vertices_fail e front end count i ws total lt fails h =
+vertices_fail digits e front end count i ws total lt fails h =
     let left : count - i ≡ suc (count - (i + 1)) = omega arith in
-    fails_same e _ total (sym (ap (λ n. with_front front (vertices end n ws)) left) ∙ h)
-    (fails_first e (vertices end (suc (count - (i + 1))) ws) (λ x. Ok (front ++ x.0, x.1)) (fails_first e (vertex end ws) (λ x. vertices end (count - (i + 1)) x.1 >>= λ others. Ok (x.0 ∷ others.0, others.1)) fails))
+    fails_same e _ total (sym (ap (λ n. with_front front (vertices digits end n ws)) left) ∙ h)
+    (fails_first e (vertices digits end (suc (count - (i + 1))) ws) (λ x. Ok (front ++ x.0, x.1)) (fails_first e (vertex digits end ws) (λ x. vertices digits end (count - (i + 1)) x.1 >>= λ others. Ok (x.0 ∷ others.0, others.1)) fails))
 
-pub vertices_done : (front : List (List ℤ)) (end count i : ℕ) (ws : List Word) (total : Reading (List (List ℤ))) → count ≤ i → with_front front (vertices end (count - i) ws) ≡ total → total ≡ Ok (front, ws)
+pub vertices_done : (digits : Option ℕ) (front : List (List ℤ)) (end count i : ℕ) (ws : List Word) (total : Reading (List (List ℤ))) → count ≤ i → with_front front (vertices digits end (count - i) ws) ≡ total → total ≡ Ok (front, ws)
 unfolding vertices
-vertices_done front end count i ws total le h =
+vertices_done digits front end count i ws total le h =
     let left : count - i ≡ 0 = omega arith in
-    sym h ∙ ap (λ n. with_front front (vertices end n ws)) left ∙ ap (λ (vs : List (List ℤ)). Ok (vs, ws)) (append-nil front)
+    sym h ∙ ap (λ n. with_front front (vertices digits end n ws)) left ∙ ap (λ (vs : List (List ℤ)). Ok (vs, ws)) (append-nil front)
 
 -- ---- fans
 fan_then : (front : List (List ℕ)) (a b c : ℕ) (said : Result (List ℕ) Refusal) → with_fan front a b (said >>= λ cs. Ok (c ∷ cs)) ≡ with_fan (front ++ (a ∷ b ∷ c ∷ []) ∷ []) a c said

@@ -15,7 +15,7 @@ use Rattle.off_text.proofs.Tokens.{by_test, feed_later, blank_step, hash_ends, h
 pub cut : (bytes : List ℕ) (i : ℕ) → i < length bytes → drop i bytes ≡ slice_index bytes i ∷ drop (i + 1) bytes
 cut bytes i lt = drop-cons bytes i 0 lt ∙ ap (λ j. slice_index bytes i ∷ drop j bytes) (sym (add-one i))
 
-none_left : (bytes : List ℕ) → drop (length bytes) bytes ≡ []
+pub none_left : (bytes : List ℕ) → drop (length bytes) bytes ≡ []
 none_left [] = refl
 none_left (b ∷ bs) = none_left bs
 

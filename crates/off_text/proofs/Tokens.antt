@@ -173,7 +173,7 @@ run_feed (b ∷ bs) = by_test (is_inner b)
 abbrev later : ℕ → List Word → List Word
 later l ws = filter (λ v. nat_lt l v.place) ws
 
-all_later : (l q : ℕ) (ws : List Word) → l < q → AreFrom q ws → later l ws ≡ ws
+pub all_later : (l q : ℕ) (ws : List Word) → l < q → AreFrom q ws → later l ws ≡ ws
 all_later l q [] lt h = refl
 all_later l q (w ∷ ws) lt h = ap (λ t. cond t (w ∷ later l ws) (later l ws)) (lt-ltb l w.place (omega (arith, h.0))) ∙ ap (λ vs. w ∷ vs) (all_later l q ws lt h.1)
 

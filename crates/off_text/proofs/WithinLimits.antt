@@ -1,5 +1,5 @@
 -- What is read keeps the limits of a soup.
-use Rattle.std.proofs.Common.{◌≡◌, ℕ, zero, suc, ◌+◌, ◌-◌, ◌^◌, ◌<◌, ◌≤◌, not, nat_lt, cond, Bool, true, false, List, [], ◌∷◌, ◌++◌, length, drop, Result, Ok, Err, refl, sym, ap, ◌∙◌, subst, arith, ℤ, All}
+use Rattle.std.proofs.Common.{◌≡◌, ℕ, zero, suc, ◌+◌, ◌-◌, ◌^◌, ◌<◌, ◌≤◌, not, nat_lt, cond, ◌||◌, unsigned_abs, Option, None, Some, Bool, true, false, List, [], ◌∷◌, ◌++◌, length, drop, Result, Ok, Err, refl, sym, ap, ◌∙◌, subst, arith, ℤ, All}
 use Rattle.std.proofs.lemmas.Bool.{ltb-true, ltb-false}
 use Rattle.std.proofs.lemmas.Int.{ints}
 use Rattle.std.proofs.lemmas.List.{length-append}
@@ -12,7 +12,8 @@ use Rattle.soup.specs.declared.raw.Raw.{Raw}
 use Rattle.soup.specs.Limits.{IsVertex, IsFaceBelow, IsRaw}
 use Rattle.off_text.specs.declared.issue.OffKind.{OffKind}
 use Rattle.off_text.specs.Words.{Word}
-use Rattle.off_text.specs.Numbers.{is_number, decimal, coordinate_of, value_of, is_well_formed, is_whole, signed, is_negative, parts_of, without_sign, Parts}
+use Rattle.off_text.specs.Numbers.{is_number, decimal, whole_coordinate, value_of, is_well_formed, is_whole, signed, is_negative, parts_of, without_sign, Parts}
+use Rattle.off_text.specs.Rounding.{coordinate_of, rounded_coordinate, units_of}
 use Rattle.off_text.specs.Grammar.{Refusal, ◌>>=◌, next, keyword, first_count, count, edge_count, corner_count, index, at_place, coordinate, vertex, vertices, several, beyond_line, fan, fan_on, face, faces, reads}
 use Rattle.off_text.specs.Scans.{rest_at}
 use Rattle.off_text.specs.Gives.{Gives}
@@ -73,31 +74,40 @@ placed_ok : {X : Type 0} (place : ℕ) (r : Result X OffKind) (x : X) → at_pla
 placed_ok place (Ok y) x is = ap (λ z. Ok z) (ok_is {E = Refusal} y x is)
 placed_ok place (Err kind) x is = absurd cc
 
-coordinate_within : (w : Word) (z : ℤ) → coordinate w ≡ Ok z → IsWithin (10 ^ 9) z
-unfolding coordinate_of
-coordinate_within w z is = value_within (is_negative w.bytes) (parts_of (without_sign w.bytes)) z (placed_ok w.place (coordinate_of w.bytes) z is)
+rounded_within : (d : ℕ) (word : List ℕ) (z : ℤ) → rounded_coordinate d word ≡ Ok z → IsWithin (10 ^ 9) z
+rounded_within d word z is =
+    let p : Parts = parts_of (without_sign word) in
+    let y : ℤ = units_of d (is_negative word) p in
+    let formed = guard_ok (nat_lt 32 (length word) || not (is_well_formed p)) _ _ z is in
+    let few = guard_ok (nat_lt (10 ^ 9) (unsigned_abs y)) _ _ z formed.1 in
+    subst (IsWithin (10 ^ 9)) (ok_is {E = OffKind} y z few.1) (record { within = ltb-false (10 ^ 9) (unsigned_abs y) few.0 })
 
-next_within : (end : ℕ) (ws : List Word) (x : ℤ × List Word) → next coordinate end ws ≡ Ok x → IsWithin (10 ^ 9) x.0
-next_within end ws x is = let h = next_said coordinate end ws x is in coordinate_within h.0 x.0 h.1
+coordinate_within : (digits : Option ℕ) (w : Word) (z : ℤ) → coordinate digits w ≡ Ok z → IsWithin (10 ^ 9) z
+unfolding coordinate_of whole_coordinate
+coordinate_within None w z is = value_within (is_negative w.bytes) (parts_of (without_sign w.bytes)) z (placed_ok w.place (whole_coordinate w.bytes) z is)
+coordinate_within (Some d) w z is = rounded_within d w.bytes z (placed_ok w.place (rounded_coordinate d w.bytes) z is)
 
-vertex_within : (end : ℕ) (ws : List Word) (v : List ℤ × List Word) → vertex end ws ≡ Ok v → IsVertex v.0
-vertex_within end ws v is =
-    let x = bind_ok (next coordinate end ws) (λ x. next coordinate end x.1 >>= λ y. next coordinate end y.1 >>= λ z. Ok (x.0 ∷ y.0 ∷ z.0 ∷ [], z.1)) v is in
-    let y = bind_ok (next coordinate end x.0.1) (λ y. next coordinate end y.1 >>= λ z. Ok (x.0.0 ∷ y.0 ∷ z.0 ∷ [], z.1)) v x.2 in
-    let z = bind_ok (next coordinate end y.0.1) (λ z. Ok (x.0.0 ∷ y.0.0 ∷ z.0 ∷ [], z.1)) v y.2 in
+next_within : (digits : Option ℕ) (end : ℕ) (ws : List Word) (x : ℤ × List Word) → next (coordinate digits) end ws ≡ Ok x → IsWithin (10 ^ 9) x.0
+next_within digits end ws x is = let h = next_said (coordinate digits) end ws x is in coordinate_within digits h.0 x.0 h.1
+
+vertex_within : (digits : Option ℕ) (end : ℕ) (ws : List Word) (v : List ℤ × List Word) → vertex digits end ws ≡ Ok v → IsVertex v.0
+vertex_within digits end ws v is =
+    let x = bind_ok (next (coordinate digits) end ws) (λ x. next (coordinate digits) end x.1 >>= λ y. next (coordinate digits) end y.1 >>= λ z. Ok (x.0 ∷ y.0 ∷ z.0 ∷ [], z.1)) v is in
+    let y = bind_ok (next (coordinate digits) end x.0.1) (λ y. next (coordinate digits) end y.1 >>= λ z. Ok (x.0.0 ∷ y.0 ∷ z.0 ∷ [], z.1)) v x.2 in
+    let z = bind_ok (next (coordinate digits) end y.0.1) (λ z. Ok (x.0.0 ∷ y.0.0 ∷ z.0 ∷ [], z.1)) v y.2 in
     let made : List ℤ × List Word = (x.0.0 ∷ y.0.0 ∷ z.0.0 ∷ [], z.0.1) in
-    subst (λ (u : List ℤ × List Word). IsVertex u.0) (ok_is {E = Refusal} made v z.2) (record { x_in = next_within end ws x.0 x.1; y_in = next_within end x.0.1 y.0 y.1; z_in = next_within end y.0.1 z.0 z.1 })
+    subst (λ (u : List ℤ × List Word). IsVertex u.0) (ok_is {E = Refusal} made v z.2) (record { x_in = next_within digits end ws x.0 x.1; y_in = next_within digits end x.0.1 y.0 y.1; z_in = next_within digits end y.0.1 z.0 z.1 })
 
-pub vertices_within : (end n : ℕ) (ws : List Word) (vs : List (List ℤ) × List Word) → vertices end n ws ≡ Ok vs → (length vs.0 ≡ n) × AllByRecursion IsVertex vs.0
+pub vertices_within : (digits : Option ℕ) (end n : ℕ) (ws : List Word) (vs : List (List ℤ) × List Word) → vertices digits end n ws ≡ Ok vs → (length vs.0 ≡ n) × AllByRecursion IsVertex vs.0
 unfolding vertices
-vertices_within end zero ws vs is =
+vertices_within digits end zero ws vs is =
     subst (λ (u : List (List ℤ) × List Word). (length u.0 ≡ 0) × AllByRecursion IsVertex u.0) (ok_is {E = Refusal} ([], ws) vs is) (refl, tt)
-vertices_within end (suc n) ws vs is =
-    let first = bind_ok (vertex end ws) (λ first. vertices end n first.1 >>= λ others. Ok (first.0 ∷ others.0, others.1)) vs is in
-    let others = bind_ok (vertices end n first.0.1) (λ others. Ok (first.0.0 ∷ others.0, others.1)) vs first.2 in
+vertices_within digits end (suc n) ws vs is =
+    let first = bind_ok (vertex digits end ws) (λ first. vertices digits end n first.1 >>= λ others. Ok (first.0 ∷ others.0, others.1)) vs is in
+    let others = bind_ok (vertices digits end n first.0.1) (λ others. Ok (first.0.0 ∷ others.0, others.1)) vs first.2 in
     let made : List (List ℤ) × List Word = (first.0.0 ∷ others.0.0, others.0.1) in
-    let h = vertices_within end n first.0.1 others.0 others.1 in
-    subst (λ (u : List (List ℤ) × List Word). (length u.0 ≡ suc n) × AllByRecursion IsVertex u.0) (ok_is {E = Refusal} made vs others.2) (ap suc h.0, (vertex_within end ws first.0 first.1, h.1))
+    let h = vertices_within digits end n first.0.1 others.0 others.1 in
+    subst (λ (u : List (List ℤ) × List Word). (length u.0 ≡ suc n) × AllByRecursion IsVertex u.0) (ok_is {E = Refusal} made vs others.2) (ap suc h.0, (vertex_within digits end ws first.0 first.1, h.1))
 
 -- ---- faces
 index_below : (n : ℕ) (w : Word) (c : ℕ) → index n w ≡ Ok c → c < n
@@ -169,18 +179,18 @@ faces_below end n (suc f) made ws ts few is =
     subst (λ (u : List (List ℕ)). (made + length u ≤ 2 ^ 20) × AllByRecursion (IsFaceBelow n) u) (ok_is {E = Refusal} (first.0.0 ++ others.0) ts others.2) (omega (arith, k.0, length-append first.0.0 others.0), all_joined n first.0.0 others.0 h.1 k.1)
 
 -- ---- the soup
-pub reads_within : (bytes : List ℕ) (raw : Raw) → reads bytes ≡ Ok raw → IsRaw raw
-reads_within bytes raw is =
+pub reads_within : (digits : Option ℕ) (bytes : List ℕ) (raw : Raw) → reads digits bytes ≡ Ok raw → IsRaw raw
+reads_within digits bytes raw is =
     let end : ℕ = length bytes in
-    let start = bind_ok (keyword end (rest_at bytes 0)) (λ rest. with_vertex_count end (next first_count end rest)) raw (sym (reads_is bytes) ∙ is) in
-    let n = bind_ok (next first_count end start.0) (λ n. with_face_count end n.0 (next count end n.1)) raw start.2 in
-    let f = bind_ok (next count end n.0.1) (λ f. with_edges end n.0.0 f.0 (next edge_count end f.1)) raw n.2 in
-    let edges = bind_ok (next edge_count end f.0.1) (λ edges. with_points end n.0.0 f.0.0 (vertices end n.0.0 edges.1)) raw f.2 in
-    let points = bind_ok (vertices end n.0.0 edges.0.1) (λ points. with_faces points.0 (faces end n.0.0 f.0.0 0 points.1)) raw edges.2 in
+    let start = bind_ok (keyword end (rest_at bytes 0)) (λ rest. with_vertex_count digits end (next first_count end rest)) raw (sym (reads_is digits bytes) ∙ is) in
+    let n = bind_ok (next first_count end start.0) (λ n. with_face_count digits end n.0 (next count end n.1)) raw start.2 in
+    let f = bind_ok (next count end n.0.1) (λ f. with_edges digits end n.0.0 f.0 (next edge_count end f.1)) raw n.2 in
+    let edges = bind_ok (next edge_count end f.0.1) (λ edges. with_points digits end n.0.0 f.0.0 (vertices digits end n.0.0 edges.1)) raw f.2 in
+    let points = bind_ok (vertices digits end n.0.0 edges.0.1) (λ points. with_faces points.0 (faces end n.0.0 f.0.0 0 points.1)) raw edges.2 in
     let triangles = bind_ok (faces end n.0.0 f.0.0 0 points.0.1) (λ triangles. Ok (record { vertices = points.0.0; faces = triangles })) raw points.2 in
     let w = next_said first_count end start.0 n.0 n.1 in
     let few : n.0.0 ≤ 2 ^ 20 = first_count_few w.0 n.0.0 w.1 in
-    let vs = vertices_within end n.0.0 edges.0.1 points.0 points.1 in
+    let vs = vertices_within digits end n.0.0 edges.0.1 points.0 points.1 in
     let ts = faces_below end n.0.0 f.0.0 0 points.0.1 triangles.0 (omega arith) triangles.1 in
     let made : Raw = record { vertices = points.0.0; faces = triangles.0 } in
     subst IsRaw (ok_is {E = Refusal} made raw triangles.2) (record {
@@ -190,6 +200,6 @@ reads_within bytes raw is =
       corners = subst (λ (m : ℕ). All (IsFaceBelow m) triangles.0) (sym vs.0) (All-from_recursion (IsFaceBelow n.0.0) triangles.0 ts.1);
     })
 
-pub result_within : (bytes : List ℕ) (r : Result Raw OffIssue) → Gives (λ raw. raw) r (reads bytes) → IfOk r IsRaw
-result_within bytes (Ok raw) h = reads_within bytes raw h
-result_within bytes (Err e) h = tt
+pub result_within : (digits : Option ℕ) (bytes : List ℕ) (r : Result Raw OffIssue) → Gives (λ raw. raw) r (reads digits bytes) → IfOk r IsRaw
+result_within digits bytes (Ok raw) h = reads_within digits bytes raw h
+result_within digits bytes (Err e) h = tt

@@ -1,12 +1,13 @@
 -- What an OFF text says: the soup, or the first refusal with its place.
-use Rattle.std.specs.Prelude.{ℕ, zero, suc, ◌+◌, ◌-◌, ◌^◌, not, nat_lt, nat_eq, List, [], ◌∷◌, ◌++◌, length, drop, codes, if◌then◌else◌, Result, Ok, Err, ℤ}
+use Rattle.std.specs.Prelude.{ℕ, zero, suc, ◌+◌, ◌-◌, ◌^◌, not, nat_lt, nat_eq, List, [], ◌∷◌, ◌++◌, length, drop, codes, Option, if◌then◌else◌, Result, Ok, Err, ℤ}
 use Rattle.std.specs.List.{filter, ends_with}
 use Rattle.std.specs.Str.{bytes_eq}
 use Rattle.soup.specs.declared.raw.Raw.{Raw}
 use Rattle.off_text.specs.declared.issue.OffKind.{OffKind}
 use Rattle.off_text.specs.declared.issue.OffKind.TheVariants.{NoKeyword, OtherKeyword, BadCount, Ended, BadNumber, BadIndex, ShortFace, TooMany}
 use Rattle.off_text.specs.Words.{Word, words}
-use Rattle.off_text.specs.Numbers.{is_number, decimal, coordinate_of}
+use Rattle.off_text.specs.Numbers.{is_number, decimal}
+use Rattle.off_text.specs.Rounding.{coordinate_of}
 
 -- what is wrong, and the place of the word that is, or of the end
 pub record Refusal : Type 0 where
@@ -62,24 +63,24 @@ abbrev pub at_place : {X : Type 0} → ℕ → Result X OffKind → Result X Ref
 at_place place (Ok x) = Ok x
 at_place place (Err kind) = refused kind place
 
--- a coordinate
-abbrev pub coordinate : Word → Result ℤ Refusal
-coordinate w = at_place w.place (coordinate_of w.bytes)
+-- a coordinate: a whole number, or where digits are given, in units of 10 ^ -digits
+abbrev pub coordinate : (digits : Option ℕ) → Word → Result ℤ Refusal
+coordinate digits w = at_place w.place (coordinate_of digits w.bytes)
 
 -- three coordinates
-abbrev pub vertex : (end : ℕ) → List Word → Reading (List ℤ)
-vertex end ws = do
-  x ← next coordinate end ws
-  y ← next coordinate end x.1
-  z ← next coordinate end y.1
+abbrev pub vertex : (digits : Option ℕ) → (end : ℕ) → List Word → Reading (List ℤ)
+vertex digits end ws = do
+  x ← next (coordinate digits) end ws
+  y ← next (coordinate digits) end x.1
+  z ← next (coordinate digits) end y.1
   Ok (x.0 ∷ y.0 ∷ z.0 ∷ [], z.1)
 
 -- n vertices
-unfoldable pub vertices : (end n : ℕ) → List Word → Reading (List (List ℤ))
-vertices end zero ws = Ok ([], ws)
-vertices end (suc n) ws = do
-  first ← vertex end ws
-  others ← vertices end n first.1
+unfoldable pub vertices : (digits : Option ℕ) → (end n : ℕ) → List Word → Reading (List (List ℤ))
+vertices digits end zero ws = Ok ([], ws)
+vertices digits end (suc n) ws = do
+  first ← vertex digits end ws
+  others ← vertices digits end n first.1
   Ok (first.0 ∷ others.0, others.1)
 
 -- ---- the faces
@@ -136,13 +137,13 @@ faces end n (suc f) made ws = do
   others ← faces end n f (made + length first.0) first.1
   Ok (first.0 ++ others)
 
--- the soup that the bytes say, or the first refusal
-unfoldable pub reads : List ℕ → Result Raw Refusal
-reads bytes = do
+-- the soup that the bytes say, with coordinates in units of 10 ^ -digits where digits are given; or the first refusal
+unfoldable pub reads : (digits : Option ℕ) → List ℕ → Result Raw Refusal
+reads digits bytes = do
   rest ← keyword (length bytes) (words bytes)
   n ← next first_count (length bytes) rest
   f ← next count (length bytes) n.1
   edges ← next edge_count (length bytes) f.1
-  points ← vertices (length bytes) n.0 edges.1
+  points ← vertices digits (length bytes) n.0 edges.1
   triangles ← faces (length bytes) n.0 f.0 0 points.1
   Ok (record { vertices = points.0; faces = triangles })

@@ -5,3 +5,6 @@ pub mod Scans
 pub mod Gives
 pub mod Spelled
 pub mod PartsView
+pub mod Rounding
+pub mod Cut
+pub mod Text

@@ -14,9 +14,13 @@ is_empty (b ∷ bs) = false
 abbrev pub is_number : List ℕ → Bool
 is_number word = not (is_empty word) && list_all is_ascii_digit word
 
+-- the number that n and the digits behind it spell
+abbrev pub continued : ℕ → List ℕ → ℕ
+continued n digits = fold (λ n d. 10 * n + (d - 48)) n digits
+
 -- the number that digits spell
 unfoldable pub decimal : List ℕ → ℕ
-decimal digits = fold (λ n d. 10 * n + (d - 48)) 0 digits
+decimal digits = continued 0 digits
 
 -- the digits at the front
 abbrev pub digits_of : List ℕ → List ℕ
@@ -59,9 +63,13 @@ abbrev pub is_exponent : List ℕ → Bool
 is_exponent [] = false
 is_exponent (b ∷ bs) = (b == 101 || b == 69) && is_number (without_sign bs)
 
+-- an exponent or nothing
+abbrev pub is_tail : List ℕ → Bool
+is_tail bytes = is_empty bytes || is_exponent bytes
+
 -- digits before or behind the point, and an exponent or nothing after them
 abbrev pub is_well_formed : Parts → Bool
-is_well_formed p = not (is_empty p.whole && is_empty p.fraction) && (is_empty p.rest || is_exponent p.rest)
+is_well_formed p = not (is_empty p.whole && is_empty p.fraction) && is_tail p.rest
 
 -- no exponent, and only zeros behind the point
 abbrev pub is_whole : Parts → Bool
@@ -79,6 +87,6 @@ value_of negative p =
     else if nat_lt (10 ^ 9) (decimal p.whole) then Err TooLarge
     else Ok (signed negative (decimal p.whole))
 
--- the coordinate that a word spells, or why it spells none
-unfoldable pub coordinate_of : List ℕ → Result ℤ OffKind
-coordinate_of word = value_of (is_negative word) (parts_of (without_sign word))
+-- the whole number that a word spells, or why it spells none
+unfoldable pub whole_coordinate : List ℕ → Result ℤ OffKind
+whole_coordinate word = value_of (is_negative word) (parts_of (without_sign word))

@@ -1,5 +1,5 @@
 -- The parts of a coordinate as the code has them.
-use Rattle.off_text.specs.declared.coordinate.Parts.{Parts as CodeParts}
+use Rattle.off_text.specs.declared.spelling.Parts.{Parts as CodeParts}
 use Rattle.off_text.specs.Numbers.{Parts}
 
 abbrev pub parts_view : CodeParts → Parts

@@ -1,6 +1,6 @@
 //! The vertices and the faces of a text.
 
-ghost use Rattle.std.specs.Prelude.{◌≡◌, ◌+◌, ◌-◌, ◌≤◌, ◌^◌, length, drop, Ok, IfOk, IfErr, OnOk};
+ghost use Rattle.std.specs.Prelude.{◌≡◌, ◌+◌, ◌-◌, ◌≤◌, ◌^◌, length, drop, Ok, IfOk, IfErr, IfSome, OnOk};
 ghost use Rattle.off_text.specs.Scans.{rest_at, beyond_at};
 ghost use Rattle.off_text.specs.Grammar.{vertex, vertices, several, index, beyond_line, face, faces};
 ghost use Rattle.off_text.specs.Gives.{Gives, Fails, with_front, with_fan};
@@ -24,14 +24,15 @@ pub struct Vertices {
     pub end: usize,
 }
 
-fn read_vertex(bytes: &[u8], from: usize) -> Result<Vertex, OffIssue>
-    requires { from ≤ length bytes.now }
-    ensures gives { Gives (λ x. (x.at, rest_at bytes.now x.end)) result (vertex (length bytes.now) (rest_at bytes.now from)) }
+fn read_vertex(bytes: &[u8], from: usize, digits: Option<u32>) -> Result<Vertex, OffIssue>
+    requires from { from ≤ length bytes.now }
+    requires digits { IfSome digits (λ d. d ≤ 5) }
+    ensures gives { Gives (λ x. (x.at, rest_at bytes.now x.end)) result (vertex digits (length bytes.now) (rest_at bytes.now from)) }
     ensures high { IfOk result (λ x. x.end ≤ length bytes.now) }
 {
-    let x = read_coordinate(bytes, from)?;
-    let y = read_coordinate(bytes, x.end)?;
-    let z = read_coordinate(bytes, y.end)?;
+    let x = read_coordinate(bytes, from, digits)?;
+    let y = read_coordinate(bytes, x.end, digits)?;
+    let z = read_coordinate(bytes, y.end, digits)?;
     Ok(Vertex {
         at: [x.value, y.value, z.value],
         end: z.end,
@@ -44,15 +45,17 @@ pub fn read_vertices(
     bytes: &[u8],
     from: usize,
     count: u32,
+    digits: Option<u32>,
 ) -> Result<Vertices, OffIssue>
-    requires { from ≤ length bytes.now }
-    ensures gives { Gives (λ x. (x.points.items, rest_at bytes.now x.end)) result (vertices (length bytes.now) count (rest_at bytes.now from)) }
+    requires from { from ≤ length bytes.now }
+    requires digits { IfSome digits (λ d. d ≤ 5) }
+    ensures gives { Gives (λ x. (x.points.items, rest_at bytes.now x.end)) result (vertices digits (length bytes.now) count (rest_at bytes.now from)) }
     ensures high { IfOk result (λ x. x.end ≤ length bytes.now) }
 {
     let mut points = Vec::new(alloc);
     let mut at = from;
     for _ in 0..count {
-        let vertex = read_vertex(bytes, at)?;
+        let vertex = read_vertex(bytes, at, digits)?;
         points.push(vertex.at)?;
         at = vertex.end;
     }

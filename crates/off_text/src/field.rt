@@ -1,6 +1,6 @@
 //! The words of a text that are looked at, each from a place on.
 
-ghost use Rattle.std.specs.Prelude.{◌≡◌, ◌+◌, ◌-◌, ◌≤◌, ◌^◌, [], length, IfOk, MatchResult};
+ghost use Rattle.std.specs.Prelude.{◌≡◌, ◌+◌, ◌-◌, ◌≤◌, ◌^◌, [], length, IfOk, IfSome, MatchResult};
 ghost use Rattle.off_text.specs.declared.issue.OffKind.TheVariants.{Ended};
 ghost use Rattle.off_text.specs.Scans.{rest_at, word_at, beyond_at, IsNext};
 ghost use Rattle.off_text.specs.Grammar.{next, keyword, first_count, count, edge_count, corner_count, index, coordinate, beyond_line};
@@ -172,14 +172,19 @@ pub fn read_index(bytes: &[u8], from: usize, vertices: u32) -> Result<Number, Of
     })
 }
 
-/// Reads a coordinate.
-pub fn read_coordinate(bytes: &[u8], from: usize) -> Result<Coordinate, OffIssue>
-    requires { from ≤ length bytes.now }
-    ensures gives { Gives (λ x. (x.value, rest_at bytes.now x.end)) result (next coordinate (length bytes.now) (rest_at bytes.now from)) }
+/// Reads a coordinate: a whole number, or where digits are given, units of 10^-digits.
+pub fn read_coordinate(
+    bytes: &[u8],
+    from: usize,
+    digits: Option<u32>,
+) -> Result<Coordinate, OffIssue>
+    requires from { from ≤ length bytes.now }
+    requires digits { IfSome digits (λ d. d ≤ 5) }
+    ensures gives { Gives (λ x. (x.value, rest_at bytes.now x.end)) result (next (coordinate digits) (length bytes.now) (rest_at bytes.now from)) }
     ensures high { IfOk result (λ x. x.end ≤ length bytes.now) }
 {
     let word = next(bytes, from)?;
-    match coordinate(&bytes[word.start..word.end]) {
+    match coordinate(&bytes[word.start..word.end], digits) {
         Ok(value) => Ok(Coordinate {
             value,
             end: word.end,

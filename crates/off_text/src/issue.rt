@@ -14,9 +14,10 @@ pub enum OffKind {
     BadCount = 3,
     /// A further word is needed, and there is none.
     Ended = 4,
-    /// A coordinate or the number of a vertex is not spelled as one.
+    /// A coordinate or the number of a vertex is not spelled as one, or a coordinate in units has more
+    /// than 32 bytes.
     BadNumber = 5,
-    /// A coordinate has an exponent, or a fraction other than zero.
+    /// A coordinate that is to be whole has an exponent, or a fraction other than zero.
     NotWhole = 6,
     /// A coordinate is above 10^9 in absolute value.
     TooLarge = 7,

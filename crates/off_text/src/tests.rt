@@ -1,5 +1,6 @@
-use crate::{OffIssue, OffKind, read_off};
-use soup::{Raw, place};
+use crate::{OffIssue, OffKind, read_off, write_off};
+use grid::Memory;
+use soup::{Raw, height_field, place};
 use std::process::Abort;
 use std::test::Fail;
 
@@ -86,7 +87,7 @@ static REFUSED: [(&str, OffKind, u64); 56] = [
 #[test]
 fn each_refusal_comes_at_its_word(rt: HostRuntime) {
     for (text, kind, place) in &REFUSED {
-        let issue = read_off(rt.alloc(), text.as_bytes()).err();
+        let issue = read_off(rt.alloc(), text.as_bytes(), None).err();
         let want = OffIssue::At {
             kind: *kind,
             place: *place,
@@ -104,14 +105,14 @@ fn compare(rt: &impl Abort, raw: &Raw, vertices: &[[i64; 3]], faces: &[[u32; 3]]
 #[test]
 fn texts_are_read(rt: HostRuntime) -> Result<(), Fail> {
     let alloc = rt.alloc();
-    let raw = read_off(alloc, b"OFF 0 0 0")?;
+    let raw = read_off(alloc, b"OFF 0 0 0", None)?;
     compare(&rt, &raw, &[], &[]);
     let large = b"OFF 01 00 00000000000000000009\n.0 +1000000000 -1000000000.00#";
-    let raw = read_off(alloc, large)?;
+    let raw = read_off(alloc, large, None)?;
     compare(&rt, &raw, &[[0, 1_000_000_000, -1_000_000_000]], &[]);
-    let raw = read_off(alloc, b"OFF\r1\r1\r0\r5\r-6\r7\r3 0 0 0 # end")?;
+    let raw = read_off(alloc, b"OFF\r1\r1\r0\r5\r-6\r7\r3 0 0 0 # end", None)?;
     compare(&rt, &raw, &[[5, -6, 7]], &[[0, 0, 0]]);
-    let raw = read_off(alloc, b"OFF#\xff\x00\n1#y\n0 0 1#z\n2 3 \xfe\x00")?;
+    let raw = read_off(alloc, b"OFF#\xff\x00\n1#y\n0 0 1#z\n2 3 \xfe\x00", None)?;
     compare(&rt, &raw, &[[1, 2, 3]], &[]);
     Ok(())
 }
@@ -119,7 +120,7 @@ fn texts_are_read(rt: HostRuntime) -> Result<(), Fail> {
 #[test]
 fn faces_become_fans(rt: HostRuntime) -> Result<(), Fail> {
     let text = "OFF 4 2 0\n0 0 0\n1 0 0\n2 0 0\n3 0 0\n4 0\n1 2\n3 2 9 # 9\n4 3 2 3 2 0.5";
-    let raw = read_off(rt.alloc(), text.as_bytes())?;
+    let raw = read_off(rt.alloc(), text.as_bytes(), None)?;
     assert_eq!(rt; raw.vertices.len(), 4);
     let fans = [[0, 1, 2], [0, 2, 3], [3, 2, 3], [3, 3, 2]];
     assert_eq!(rt; raw.faces.as_slice(), fans.as_slice());
@@ -136,8 +137,8 @@ const COLOURED_CUBE: &str = "OFF 8 6 12 # a cube\r\n# vertices\r\n0 0 0\r\n8.000
 #[test]
 fn a_cube_may_be_spelled_in_two_ways(rt: HostRuntime) -> Result<(), Fail> {
     let alloc = rt.alloc();
-    let plain = read_off(alloc, CUBE.as_bytes())?;
-    let coloured = read_off(alloc, COLOURED_CUBE.as_bytes())?;
+    let plain = read_off(alloc, CUBE.as_bytes(), None)?;
+    let coloured = read_off(alloc, COLOURED_CUBE.as_bytes(), None)?;
     compare(
         &rt,
         &coloured,
@@ -149,5 +150,51 @@ fn a_cube_may_be_spelled_in_two_ways(rt: HostRuntime) -> Result<(), Fail> {
     let soup = place(alloc, &plain, 2, 1)?;
     assert_eq!(rt; soup.side, 16);
     assert_eq!(rt; soup.shift, [-4; 3]);
+    Ok(())
+}
+
+#[test]
+fn decimals_are_rounded(rt: HostRuntime) -> Result<(), Fail> {
+    let alloc = rt.alloc();
+    let text = "OFF 3 0 0 1.005 -1.005 1e-400 0e400 10000000.004 .5 -2.5E-2 0.0049999 +12e-1";
+    let raw = read_off(alloc, text.as_bytes(), Some(2))?;
+    let hundredths = [[101, -100, 0], [0, 1_000_000_000, 50], [-2, 0, 120]];
+    compare(&rt, &raw, &hundredths, &[]);
+    let raw = read_off(alloc, b"OFF 1 0 0 0.5 -0.5 25e-1", Some(0))?;
+    compare(&rt, &raw, &[[1, 0, 3]], &[]);
+    Ok(())
+}
+
+/// Texts that are refused where coordinates are read in hundredths.
+static REFUSED_HUNDREDTHS: [(&str, OffKind, u64); 5] = [
+    ("OFF 1 0 0 1e400 0 0", OffKind::TooLarge, 10),
+    ("OFF 1 0 0 0 -10000000.006 0", OffKind::TooLarge, 12),
+    (
+        "OFF 1 0 0 000000000000000000000000000000001 0 0",
+        OffKind::BadNumber,
+        10,
+    ),
+    ("OFF 1 0 0 1e 0 0", OffKind::BadNumber, 10),
+    ("OFF 1 0 0 0 0 1.5.", OffKind::BadNumber, 14),
+];
+
+#[test]
+fn decimals_are_refused(rt: HostRuntime) {
+    for (text, kind, place) in &REFUSED_HUNDREDTHS {
+        let issue = read_off(rt.alloc(), text.as_bytes(), Some(2)).err();
+        let want = OffIssue::At {
+            kind: *kind,
+            place: *place,
+        };
+        assert_eq!(rt; issue, Some(want), "{text:?}");
+    }
+}
+
+#[test]
+fn a_height_field_is_written(rt: HostRuntime) -> Result<(), Memory> {
+    let raw = height_field(rt.alloc(), 1, 1)?;
+    let text = write_off(rt.alloc(), &raw)?;
+    let want = b"OFF\n4 2 0\n0 0 1\n4 0 2\n0 4 4\n4 4 5\n3 0 1 3\n3 0 3 2\n";
+    assert_eq!(rt; text.as_slice(), want.as_slice());
     Ok(())
 }

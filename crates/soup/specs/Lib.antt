@@ -1,3 +1,4 @@
 pub mod Limits
 pub mod Placement
 pub mod Ranges
+pub mod HeightField

@@ -46,7 +46,7 @@ power_from (suc more) k n = if nat_le n (2 ^ k) then 2 ^ k else power_from more 
 abbrev pub side : Raw → (epsilon cells : ℕ) → ℕ
 side raw epsilon cells = power_from 14 4 (max (room raw epsilon) (4 * cells))
 
--- where a box of that side begins along an axis, in input units: the vertices lie in its middle, floored
+-- where a box of that side begins along an axis, before the shift: the vertices lie in its middle, floored
 abbrev pub start_along : ℕ → List (List ℤ) → (length_of : ℕ) → ℤ
 start_along axis [] length_of = pos 0
 start_along axis vs length_of = least axis vs -ℤ pos ((length_of - spread axis vs) / 2)

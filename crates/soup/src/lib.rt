@@ -8,9 +8,11 @@ mod placing;
 mod range;
 mod raw;
 mod sides;
+mod terrain;
 
 pub use placing::{PlaceIssue, place};
 pub use raw::{Raw, Soup};
+pub use terrain::height_field;
 
 #[cfg(test)]
 mod tests;

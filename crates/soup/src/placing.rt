@@ -50,7 +50,7 @@ fn placed_in(alloc: Global, raw: &Raw, measure: &Measure, side: u64) -> Result<S
 
 /// Places the soup in its box. The side of the box is the least power of two from 16 on that is at
 /// least `4 * cells` and has room for the soup, for the envelope `e` and for two more steps at
-/// either end. The soup lies in its middle. `e` is in grid steps, which are input units.
+/// either end. The soup lies in its middle. `e` is in grid steps, the unit of the vertices.
 #[tactic(auto, unfolding(crate::specs::Placement::placed))]
 pub fn place(alloc: Global, raw: &Raw, e: u32, cells: u32) -> Result<Soup, PlaceIssue>
     requires coordinates { All IsVertex raw.now.vertices }

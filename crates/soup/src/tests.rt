@@ -2,8 +2,8 @@ ghost use Rattle.std.specs.Prelude.{◌≤◌, length, All};
 ghost use Rattle.soup.specs.Limits.{IsVertex, IsFaceBelow};
 ghost use Rattle.grid.specs.Limits.{IsCells};
 
-use crate::{PlaceIssue, Raw, place};
-use grid::{Point, Tri};
+use crate::{PlaceIssue, Raw, height_field, place};
+use grid::{Memory, Point, Tri};
 use items::Items;
 use std::alloc::Global;
 use std::process::Abort;
@@ -90,5 +90,14 @@ fn the_largest_extent_is_placed_and_the_next_is_not(rt: HostRuntime) -> Result<(
     };
     let issue = place(alloc, &raw, 2, 4).err();
     assert_eq!(rt; issue, Some(PlaceIssue::TooWide(262_137)));
+    Ok(())
+}
+
+#[test]
+fn a_height_field_follows_from_its_seed(rt: HostRuntime) -> Result<(), Memory> {
+    let raw = height_field(rt.alloc(), 1, 1)?;
+    let vertices = [[0, 0, 1], [4, 0, 2], [0, 4, 4], [4, 4, 5]];
+    assert_eq!(rt; raw.vertices.as_slice(), vertices.as_slice());
+    assert_eq!(rt; raw.faces.as_slice(), [[0, 1, 3], [0, 3, 2]].as_slice());
     Ok(())
 }

@@ -7,5 +7,5 @@ use Rattle.off_text.proofs.body.read_vertices.Given as goal
 abbrev pub invariant-loop : goal.invariant-loop
 invariant-loop l = record {
   high : l.at ≤ length l.bytes;
-  total : with_front l.points.items (vertices (length l.bytes) (l.count - l.counter) (rest_at l.bytes l.at)) ≡ vertices (length l.bytes) l.count (rest_at l.bytes l.from);
+  total : with_front l.points.items (vertices l.digits (length l.bytes) (l.count - l.counter) (rest_at l.bytes l.at)) ≡ vertices l.digits (length l.bytes) l.count (rest_at l.bytes l.from);
 }

@@ -3,7 +3,7 @@ use Rattle.off_text.specs.declared.issue.OffKind.{OffKind}
 use Rattle.off_text.specs.Numbers.{parts_of, is_negative, signed}
 use Rattle.off_text.specs.PartsView.{parts_view}
 use Rattle.off_text.proofs.Coordinates.{coordinate_by, bad_number, not_whole, too_large, value_is, whole_digits}
-use Rattle.off_text.proofs.coordinate.coordinate.Goals as goal
+use Rattle.off_text.proofs.coordinate.whole_coordinate.Goals as goal
 
 abbrev said : ℤ → Result ℤ OffKind
 said z = Ok z
