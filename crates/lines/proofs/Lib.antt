@@ -5,3 +5,4 @@ pub mod Clear
 pub mod Putting
 pub mod Going
 pub mod Chains
+pub mod CanSay

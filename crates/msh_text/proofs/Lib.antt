@@ -4,3 +4,4 @@ mod Nodes
 pub mod Reading
 pub mod SaysText
 pub mod OneReading
+pub mod Keeping

@@ -18,7 +18,7 @@ mod write;
 
 pub use file_mesh::{MshMesh, MshNode, MshTet};
 pub use issue::MshIssue;
-pub use laws::one_text_law;
+pub use laws::{one_text_law, plain_law};
 pub use of_lists::msh_of;
 pub use whole::read_msh;
 pub use write::{write_kept, write_msh};

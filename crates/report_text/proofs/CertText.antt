@@ -5,6 +5,7 @@ use Rattle.mesh_types.specs.declared.cert.Cert.{Cert, out-Cert}
 use Rattle.mesh_types.specs.declared.cert.Cert.TheVariants as certs
 use Rattle.mesh_types.specs.declared.cert.Cert.TheOpen as open_cert
 use Rattle.lines.specs.Fields.{space, word}
+use Rattle.lines.proofs.CanSay.{four_items}
 use Rattle.report_text.specs.Rules.{bracket}
 use Rattle.report_text.specs.Text.{parts_text, top_text, cert_text}
 use Rattle.report_text.proofs.SaysText.{out-Leaf, out-Split}
@@ -26,14 +27,6 @@ bottom_text zero end parts c none is = ap (λ d. top_text (λ e x. []) end (out-
 bottom_text (suc levels) end parts c none is = let no : ⊥ = omega (arith, none) in absurd no
 
 -- the four parts, as the code takes them out of an array: each with some default
-four_items : (parts : List Cert) → length parts ≡ 4 → (p q r s : Cert) → parts ≡ get_or parts 0 p ∷ get_or parts 1 q ∷ get_or parts 2 r ∷ get_or parts 3 s ∷ []
-four_items [] l p q r s = let no : ⊥ = omega (arith, l) in absurd no
-four_items (x ∷ []) l p q r s = let no : ⊥ = omega (arith, l) in absurd no
-four_items (x ∷ y ∷ []) l p q r s = let no : ⊥ = omega (arith, l) in absurd no
-four_items (x ∷ y ∷ z ∷ []) l p q r s = let no : ⊥ = omega (arith, l) in absurd no
-four_items (x ∷ y ∷ z ∷ w ∷ []) l p q r s = refl
-four_items (x ∷ y ∷ z ∷ w ∷ v ∷ rest) l p q r s = let no : ⊥ = omega (arith, l) in absurd no
-
 pub split_text : (levels end : ℕ) (parts : List Cert) (c : Cert) → levels ≢ 0 → length parts ≡ 4 → c ≡ certs.Split parts → (p q r s : Cert)
     → cert_text levels end c ≡ codes "(" ++ ((cert_text (levels - 1) space (get_or parts 0 p) ++ (cert_text (levels - 1) space (get_or parts 1 q) ++ (cert_text (levels - 1) space (get_or parts 2 r) ++ cert_text (levels - 1) bracket (get_or parts 3 s)))) ++ ((end ∷ []) ++ []))
 unfolding cert_text

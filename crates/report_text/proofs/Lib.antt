@@ -6,3 +6,5 @@ pub mod Lists
 pub mod TopOfCert
 pub mod Head
 pub mod ReadsReport
+mod KeepingParts
+pub mod Keeping

@@ -22,7 +22,7 @@ mod whole;
 mod write;
 
 pub use issue::ReportIssue;
-pub use laws::one_report_law;
+pub use laws::{one_report_law, plain_law};
 pub use report::{Covering, Report, Second};
 pub use whole::read_report;
 pub use write::write_report;
