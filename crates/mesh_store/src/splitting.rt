@@ -1,7 +1,8 @@
 // The pieces of what a list of cuts touches.
-ghost use Rattle.grid.specs.Simplices.{rising};
+ghost use Rattle.grid.specs.Simplices.{IsTet, rising};
 ghost use Rattle.grid.specs.Views.{corners_of, triples_of};
 ghost use Rattle.mesh_store.specs.Exchanges.{tet_in};
+ghost use Rattle.mesh_types.specs.CutLists.{AreCuts};
 ghost use Rattle.mesh_types.specs.Refines.{sub_all};
 ghost use Rattle.std.specs.List.{flat_map};
 ghost use Rattle.std.specs.Prelude.{All, IfOk, OnOk, length, map, ◌+◌, ◌++◌, ◌<◌, ◌^◌, ◌≡◌};
@@ -9,6 +10,7 @@ ghost use Rattle.std.specs.Prelude.{All, IfOk, OnOk, length, map, ◌+◌, ◌++
 use grid::{Face, Memory, Tet};
 use mesh_types::Cut;
 use std::alloc::Global;
+use table_pieces::push_pieces;
 use tet_slots::Slots;
 
 /// The pieces of the tetrahedra of these slots, whose new points are numbered from `first` on.
@@ -20,6 +22,8 @@ pub(crate) fn tet_pieces(
     first: u32,
 ) -> Result<Vec<Tet>, Memory>
     requires there { All (λ i. i < length slots.now.slots) numbers.now }
+    requires tets { All (λ s. IsTet first s.tet.0) slots.now.slots }
+    requires cuts { AreCuts first cuts.now }
     requires room { first + length cuts.now < 2 ^ 32 }
     ensures { IfOk result (λ w. corners_of w.items ≡ flat_map (sub_all first cuts.now) (map (tet_in slots.now.slots) numbers.now)) }
 {
@@ -27,17 +31,16 @@ pub(crate) fn tet_pieces(
     let mut pieces = Vec::new(alloc);
     let mut spare = Vec::new(alloc);
     for slot in numbers {
-        pieces::split(cuts, first, slots.tet(*slot), &mut pieces, &mut spare)?;
-        push_tets(&mut all, &pieces)?;
+        push_pieces(
+            cuts,
+            first,
+            slots.tet(*slot),
+            &mut all,
+            &mut pieces,
+            &mut spare,
+        )?;
     }
     Ok(all)
-}
-
-fn push_tets(all: &mut Vec<Tet>, tets: &[Tet]) -> Result<(), Memory>
-    ensures { OnOk result (corners_of all.new.items ≡ corners_of all.old.items ++ corners_of tets.now) }
-{
-    all.extend_from_slice(tets)?;
-    Ok(())
 }
 
 /// The pieces of the faces, each in rising order, whose new points are numbered from `first` on.

@@ -1,11 +1,11 @@
 // The search for the slots that meet a box, through the bins.
 ghost use Rattle.grid.specs.Simplices.{IsTet, has};
-ghost use Rattle.std.specs.Prelude.{All, OnOk, length, slice_index_or, true, ℕ, ◌-◌, ◌<◌, ◌≡◌, ◌≤◌};
+ghost use Rattle.std.specs.Prelude.{All, OnOk, length, nat_le, slice_index_or, true, ℕ, ◌&&◌, ◌-◌, ◌<◌, ◌≡◌, ◌≤◌};
 ghost use Rattle.indexmap.specs.IndexMap.{keys};
 ghost use Rattle.tet_slots.specs.Bins.{in_bin};
 ghost use Rattle.tet_slots.specs.Levels.{in_place};
 ghost use Rattle.tet_slots.specs.Places.{cell, offset};
-ghost use Rattle.tet_slots.specs.Quests.{AreAllNear, AreNear, Finds, Grows, passes};
+ghost use Rattle.tet_slots.specs.Quests.{AreAllNear, AreNear, Finds, Grows, is_inside, passes};
 ghost use Rattle.tet_slots.specs.declared.bins.Bin.{Bin};
 
 use crate::bins::{Bin, Level};
@@ -38,6 +38,22 @@ impl Block {
         let z = u64::from(self.high.z.saturating_sub(self.low.z)) + 1;
         x.saturating_mul(y).saturating_mul(z)
     }
+
+    /// Whether a bin is one of them.
+    #[tactic(auto, unfolding(crate::specs::Quests::is_inside))]
+    fn has(self, bin: Bin) -> bool
+        ensures { result ≡ is_inside self.low self.high bin }
+    {
+        lies_from(self.low.x, bin.x, self.high.x)
+            && lies_from(self.low.y, bin.y, self.high.y)
+            && lies_from(self.low.z, bin.z, self.high.z)
+    }
+}
+
+fn lies_from(low: u32, x: u32, high: u32) -> bool
+    ensures { result ≡ (nat_le low x && nat_le x high) }
+{
+    low <= x && x <= high
 }
 
 impl<'a> Quest<'a> {
@@ -54,7 +70,8 @@ impl<'a> Quest<'a> {
         Ok(())
     }
 
-    /// Adds what is found in the bins that may meet the box, or in all bins where these are fewer.
+    /// Adds what is found in the bins that may have a slot that meets the box. Where all bins are not
+    /// many more it goes through these, since a bin is passed over sooner than looked up.
     fn find_in_level(&self, bins: &Level, level: usize, into: &mut Vec<u32>) -> Result<(), Memory>
         requires corners { All (λ s. IsTet (length self.now.points.now) s.tet.0) self.now.slots.now }
         requires near { AreNear self.now.points.now self.now.slots.now level bins.now }
@@ -62,8 +79,8 @@ impl<'a> Quest<'a> {
         ensures found { OnOk result ((b : Bin) → Finds (passes self.now.points.now self.now.slots.now self.now.lo self.now.hi) (in_bin bins.now b) into.new.items) }
     {
         let block = self.block(level);
-        if (bins.len() as u64) < block.count() {
-            self.find_in_all(bins, into)?;
+        if (bins.len() as u64) < block.count().saturating_mul(8) {
+            self.find_in_all(bins, block, into)?;
         } else {
             self.find_in_block(bins, block, into)?;
         }
@@ -93,14 +110,15 @@ impl<'a> Quest<'a> {
         }
     }
 
-    fn find_in_all(&self, bins: &Level, into: &mut Vec<u32>) -> Result<(), Memory>
+    fn find_in_all(&self, bins: &Level, block: Block, into: &mut Vec<u32>) -> Result<(), Memory>
         requires corners { All (λ s. IsTet (length self.now.points.now) s.tet.0) self.now.slots.now }
         requires there { (b : Bin) (i : ℕ) → has (in_bin bins.now b) i ≡ true → i < length self.now.slots.now }
+        requires inside { (b : Bin) (i : ℕ) → has (in_bin bins.now b) i ≡ true → passes self.now.points.now self.now.slots.now self.now.lo self.now.hi i ≡ true → is_inside block.low block.high b ≡ true }
         ensures grows { OnOk result (Grows (passes self.now.points.now self.now.slots.now self.now.lo self.now.hi) into.old.items into.new.items) }
         ensures found { OnOk result ((b : Bin) → Finds (passes self.now.points.now self.now.slots.now self.now.lo self.now.hi) (in_bin bins.now b) into.new.items) }
     {
         for k in 0..bins.len() {
-            self.find_in_nth(bins, k, into)?;
+            self.find_in_nth(bins, block, k, into)?;
         }
         Ok(())
     }
@@ -154,14 +172,24 @@ impl<'a> Quest<'a> {
         Ok(())
     }
 
-    fn find_in_nth(&self, bins: &Level, k: usize, into: &mut Vec<u32>) -> Result<(), Memory>
+    fn find_in_nth(
+        &self,
+        bins: &Level,
+        block: Block,
+        k: usize,
+        into: &mut Vec<u32>,
+    ) -> Result<(), Memory>
         requires corners { All (λ s. IsTet (length self.now.points.now) s.tet.0) self.now.slots.now }
         requires there { (b : Bin) (i : ℕ) → has (in_bin bins.now b) i ≡ true → i < length self.now.slots.now }
+        requires inside { (b : Bin) (i : ℕ) → has (in_bin bins.now b) i ≡ true → passes self.now.points.now self.now.slots.now self.now.lo self.now.hi i ≡ true → is_inside block.low block.high b ≡ true }
         requires within { k < length (keys bins.now) }
         ensures grows { OnOk result (Grows (passes self.now.points.now self.now.slots.now self.now.lo self.now.hi) into.old.items into.new.items) }
         ensures found { OnOk result ((d : Bin) → Finds (passes self.now.points.now self.now.slots.now self.now.lo self.now.hi) (in_bin bins.now (slice_index_or (keys bins.now) k d)) into.new.items) }
     {
         let bin = bins.keys()[k];
+        if !block.has(bin) {
+            return Ok(());
+        }
         self.find_in_bin(bins, bin, into)?;
         Ok(())
     }

@@ -80,7 +80,8 @@ impl Slots {
     {
         let alloc = *self.slots.allocator();
         let number = self.slots.len() as u32;
-        let place = place::place_of(&self.points, t);
+        let least = place::least_level(&self.places);
+        let place = place::place_of(&self.points, t, least);
         point_lists::enter(&mut self.lists, &t.0, number)?;
         let slot = Slot { tet: t, live: true };
         let Ok(()) = push_both(&mut self.slots, slot, &mut self.forgotten, false) else {

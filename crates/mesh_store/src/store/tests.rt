@@ -1,5 +1,7 @@
 ghost use Rattle.std.specs.Prelude.{IfOk, IsSome, None, length, pos, ◌≡◌};
 
+mod long;
+
 use super::*;
 use grid::{Point, Tet};
 use std::test::Fail;
@@ -109,5 +111,52 @@ fn collapses_an_edge(rt: HostRuntime) -> Result<(), Fail> {
     assert_eq!(rt; collapsed.points.len(), 9);
     assert_eq!(rt; collapsed.tets.len(), 6);
     assert_eq!(rt; collapsed.made, 24);
+    Ok(())
+}
+
+/// The cube, open, with the two tetrahedra at the face (0, 1, 7) swapped for three.
+fn swapped_cube(alloc: Global) -> Result<Store, StoreIssue>
+    ensures open { IfOk result (λ s. IsSome s.at_begin) }
+{
+    let mut store = cube(alloc)?;
+    store.begin();
+    store.swap23(0, 1, 7)?;
+    Ok(store)
+}
+
+#[test]
+fn swaps_two_for_three(rt: HostRuntime) -> Result<(), Fail> {
+    let alloc = rt.alloc();
+    let store = swapped_cube(alloc)?;
+    let swapped = store.lists(alloc)?;
+    let expected = [
+        Tet([0, 3, 2, 7]),
+        Tet([0, 2, 6, 7]),
+        Tet([0, 4, 5, 7]),
+        Tet([0, 6, 4, 7]),
+        Tet([5, 1, 3, 7]),
+        Tet([0, 5, 3, 7]),
+        Tet([0, 1, 3, 5]),
+    ];
+    assert_eq!(rt; swapped.tets.as_slice(), &expected[..]);
+    Ok(())
+}
+
+#[test]
+fn swaps_three_for_two(rt: HostRuntime) -> Result<(), Fail> {
+    let alloc = rt.alloc();
+    let mut store = swapped_cube(alloc)?;
+    store.swap32(3, 5)?;
+    let swapped = store.lists(alloc)?;
+    let expected = [
+        Tet([0, 3, 2, 7]),
+        Tet([0, 2, 6, 7]),
+        Tet([0, 4, 5, 7]),
+        Tet([0, 6, 4, 7]),
+        Tet([0, 1, 3, 7]),
+        Tet([5, 1, 0, 7]),
+    ];
+    assert_eq!(rt; swapped.tets.as_slice(), &expected[..]);
+    assert_eq!(rt; swapped.made, 11);
     Ok(())
 }

@@ -37,7 +37,7 @@ pub tet_pieces-requires : goal.tet_pieces-requires
 tet_pieces-requires c =
     let h = (goal.at.tet_pieces-requires c).In_ok-gone in
     let can : CanKill c.deref.result.now c.self.inside.slots.slots = rw (c.deref.ensures.value, gone-are h, slots-are h) (split-can_kill c.args.cuts.now c.args.self.now.parts.slots) in
-    record { there = All-from_recursion (λ i. i < length c.self.inside.slots.slots) c.deref.result.now (CanKill-there c.deref.result.now c.self.inside.slots.slots can); room = room h }
+    record { there = All-from_recursion (λ i. i < length c.self.inside.slots.slots) c.deref.result.now (CanKill-there c.deref.result.now c.self.inside.slots.slots can); tets = rw (slots-are h) c.requires.tets; cuts = c.requires.cuts; room = room h }
 
 pub face_pieces-requires : goal.face_pieces-requires
 face_pieces-requires c = room (goal.at.face_pieces-requires c).In_ok-gone
