@@ -1,4 +1,5 @@
 // The first tetrahedron with a wanted edge.
+ghost use Rattle.cutter.specs.Found.{AreNear};
 ghost use Rattle.cutter.specs.First.{IsFirstSlot, IsFirstWanted, earlier, has_one_of, head, is_open};
 ghost use Rattle.cutting_rule.specs.Edges.{numbers_of};
 ghost use Rattle.grid.specs.Boxes.{IsTriInBox};
@@ -7,7 +8,7 @@ ghost use Rattle.mesh_store.specs.Parts.{mesh_in};
 ghost use Rattle.mesh_types.specs.Phases.{wanted};
 ghost use Rattle.std.specs.Prelude.{IfOk, [], ◌<◌, ◌^◌, ◌∷◌, ◌≡◌};
 
-use crate::wanted::{corner_points, wanted_edges};
+use crate::wanted::{corner_points, near_slots, near_wanted};
 use cutting_rule::{CuttingTriangle, Edge};
 use grid::{Memory, Point, Tri};
 use mesh_store::Store;
@@ -56,18 +57,21 @@ fn first_of_all(alloc: Global, slots: &Slots, edges: &[Edge]) -> Result<Option<u
     Ok(first)
 }
 
-/// The first live slot that has an edge which phase i wants.
+/// The first live slot that has an edge which phase i wants, where `near` are the slots near the
+/// triangle.
 fn first_of_phase(
     alloc: Global,
     store: &Store,
     triangle: &CuttingTriangle,
     i: u32,
+    near: &[u32],
 ) -> Result<Option<u32>, Memory>
-    requires { i < 4 }
+    requires index { i < 4 }
+    requires near { AreNear store.now.parts.points store.now.parts.slots triangle.now near.now }
     ensures { IfOk result (λ found. IsFirstSlot (has_one_of (wanted (mesh_in store.now.parts) triangle.now i)) store.now.parts.slots found) }
 {
     let slots = store.slots();
-    let edges = wanted_edges(alloc, triangle, i, slots)?;
+    let edges = near_wanted(alloc, triangle, i, slots, near)?;
     let first = first_of_all(alloc, slots, &edges)?;
     Ok(first)
 }
@@ -80,10 +84,11 @@ fn first_slot(
 ) -> Result<Option<u32>, Memory>
     ensures { IfOk result (λ found. IsFirstSlot (is_open (mesh_in store.now.parts) triangle.now) store.now.parts.slots found) }
 {
-    let a = first_of_phase(alloc, store, triangle, 0)?;
-    let b = first_of_phase(alloc, store, triangle, 1)?;
-    let c = first_of_phase(alloc, store, triangle, 2)?;
-    let d = first_of_phase(alloc, store, triangle, 3)?;
+    let near = near_slots(alloc, triangle, store.slots())?;
+    let a = first_of_phase(alloc, store, triangle, 0, &near)?;
+    let b = first_of_phase(alloc, store, triangle, 1, &near)?;
+    let c = first_of_phase(alloc, store, triangle, 2, &near)?;
+    let d = first_of_phase(alloc, store, triangle, 3, &near)?;
     let later = earlier(c, d);
     let after_first = earlier(b, later);
     Ok(earlier(a, after_first))

@@ -2,7 +2,7 @@
 use Rattle.std.proofs.Common.{◌≡◌, ◌⊎◌, ℕ, zero, suc, ℤ, pos, negsuc, ◌<◌, Bool, true, false, ◌&&◌, ◌||◌, if◌then◌else◌, nat_lt, nat_eq, int_le, List, [], ◌∷◌, map, length, All, refl, sym, ap, ◌∙◌, subst, inl, inr, arith}
 use Rattle.std.specs.Int.{int_signum}
 use Rattle.std.specs.Int.Signed.{lt_z}
-use Rattle.std.specs.List.{flat_map, filter, list_any, AllByRecursion as Each}
+use Rattle.std.specs.List.{flat_map, filter, list_all, list_any, AllByRecursion as Each}
 use Rattle.std.proofs.lemmas.Bool.{cases_Bool, false_from_ne_true, true≢false, or_left, or_right, or_cases}
 use Rattle.std.proofs.lemmas.Int.{ints}
 use Rattle.std.proofs.lemmas.Bool.Decides.{nat_tests}
@@ -10,11 +10,11 @@ use Rattle.std.proofs.lemmas.List.Elements.{recursion_from_All}
 use Rattle.grid.specs.declared.shapes.Point.{Point}
 use Rattle.grid.specs.declared.shapes.Tri.{Tri}
 use Rattle.grid.specs.Determinants.{point_at}
-use Rattle.grid.specs.Planes.{Plane, value_of, snap_sign}
+use Rattle.grid.specs.Planes.{Plane, side_plane, value_of, snap_sign}
 use Rattle.grid.specs.Simplices.{rising, IsTet, AreDifferent}
 use Rattle.planes.specs.Crossings.{HaveOppositeSigns}
 use Rattle.planes.proofs.Signs.{HaveOppositeSigns-up, HaveOppositeSigns-down}
-use Rattle.mesh_types.specs.CuttingRule.{lies_below, lies_above, splits, ranges_meet, boxes_meet, phase_plane, is_crossed, is_wanted}
+use Rattle.mesh_types.specs.CuttingRule.{lies_below, lies_above, lies_on, splits, ranges_meet, boxes_meet, section_plane, phase_plane, is_crossed, is_wanted}
 use Rattle.mesh_types.specs.Phases.{points_of, edges, wanted_in}
 use Rattle.mesh_types.specs.Tracking.{in_order_once}
 use Rattle.mesh_types.proofs.Each.{Each-of_flat_map}
@@ -158,6 +158,32 @@ far-none points t i x h = filter-none _ (AreIn x) (λ e among. unwanted points t
 pub uncrossed-none : (points : List Point) (t : Tri) (x : List ℕ) → is_crossed t (points_of points x) ≡ false → wanted_in points t 0 x ≡ []
 unfolding wanted_in is_wanted
 uncrossed-none points t x h = filter-none _ (AreIn x) (λ e among. false-and _ _ h) (edges x) (edges_in x)
+
+-- a later phase wants none of a tetrahedron that has no corner on the triangle's plane, or that its plane does not split
+any-points : (points : List Point) (test : Point → Bool) (x e : List ℕ) → AreIn x e → list_any test (points_of points e) ≡ true → list_any test (points_of points x) ≡ true
+any-points points test x e h a =
+    any-map test (point_at points) x ∙ h (λ c. test (point_at points c)) (sym (any-map test (point_at points) e) ∙ a)
+
+some-of_all : (p q : Point → Bool) (ps : List Point) → list_any p ps ≡ true → list_all q ps ≡ true → list_any q ps ≡ true
+some-of_all p q [] a b = a
+some-of_all p q (x ∷ ps) a b = or_left (q x) (list_any q ps) (and_left (q x) (list_all q ps) b)
+
+may-want : (points : List Point) (t : Tri) (i : ℕ) (x e : List ℕ) → AreIn x e → is_wanted t (suc i) (points_of points x) (points_of points e) ≡ true → (list_any (lies_on (section_plane t)) (points_of points x) && splits (side_plane t i) (points_of points x)) ≡ true
+unfolding is_wanted
+may-want points t i x e among h =
+    let apart = and_right (boxes_meet (points_of points e) t.0 && list_all (lies_on (section_plane t)) (points_of points e)) (splits (side_plane t i) (points_of points e)) (and_left _ _ h) in
+    let on = and_right (boxes_meet (points_of points e) t.0) (list_all (lies_on (section_plane t)) (points_of points e)) (and_left _ _ (and_left _ _ h)) in
+    let below = and_left (list_any (lies_below (side_plane t i)) (points_of points e)) (list_any (lies_above (side_plane t i)) (points_of points e)) apart in
+    let above = and_right (list_any (lies_below (side_plane t i)) (points_of points e)) (list_any (lies_above (side_plane t i)) (points_of points e)) apart in
+    and_both _ _
+    (any-points points (lies_on (section_plane t)) x e among (some-of_all (lies_below (side_plane t i)) (lies_on (section_plane t)) (points_of points e) below on))
+    (and_both _ _ (any-points points (lies_below (side_plane t i)) x e among below) (any-points points (lies_above (side_plane t i)) x e among above))
+
+pub later-none : (points : List Point) (t : Tri) (i : ℕ) (x : List ℕ) → 0 < i → (list_any (lies_on (section_plane t)) (points_of points x) && splits (phase_plane t i) (points_of points x)) ≡ false → wanted_in points t i x ≡ []
+unfolding wanted_in
+later-none points t zero x l h = absurd (omega arith)
+later-none points t (suc i) x l h =
+    filter-none _ (AreIn x) (λ e among. false_from_ne_true (is_wanted t (suc i) (points_of points x) (points_of points e)) (λ a. true≢false (sym (may-want points t i x e among a) ∙ h))) (edges x) (edges_in x)
 
 -- ---- a wanted edge has ends on both sides of the plane
 record IsEdge (n : ℕ) (e : List ℕ) : Type 0 where

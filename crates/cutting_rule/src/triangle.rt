@@ -4,9 +4,11 @@ ghost use Rattle.cutting_rule.specs.Section.{IsWithin};
 ghost use Rattle.grid.specs.Boxes.{IsInBox, IsTriInBox};
 ghost use Rattle.grid.specs.Planes.{IsDegenerate};
 ghost use Rattle.grid.specs.Planes;
+ghost use Rattle.grid.specs.declared.shapes.Point.{Point};
 ghost use Rattle.mesh_types.specs.CuttingRule.{boxes_meet, is_crossed, is_in_section, is_wanted, lies_above, lies_below, lies_on, phase_plane, reaches, section_plane, splits};
+ghost use Rattle.mesh_types.specs.Phases.{points_of, wanted_in};
 ghost use Rattle.std.specs.List.{list_all, list_any};
-ghost use Rattle.std.specs.Prelude.{All, false, map, true, ◌&&◌, ◌<◌, ◌^◌, ◌≡◌};
+ghost use Rattle.std.specs.Prelude.{All, List, [], false, map, true, ℕ, ◌&&◌, ◌<◌, ◌^◌, ◌≡◌};
 
 use crate::bounds::{Bounds, bounds_of, meets};
 use crate::signs::signs_of;
@@ -142,10 +144,45 @@ impl CuttingTriangle {
     pub(crate) fn may_want(&self, i: u32, corners: &[Point; 4]) -> bool
         requires index { i < 4 }
         requires corners_in { All (IsInBox (2 ^ 18)) corners.now }
-        ensures no { result ≡ false → (i ≡ 0) × (is_crossed self.now corners.now ≡ false) }
+        ensures no { result ≡ false → (points : List Point) (x : List ℕ) → corners.now ≡ points_of points x → wanted_in points self.now i x ≡ [] }
         ensures yes { result ≡ true → i ≡ 0 → is_crossed self.now corners.now ≡ true }
     {
-        i != 0 || self.crosses(corners)
+        if i == 0 {
+            self.crosses(corners)
+        } else {
+            self.may_want_later(i, corners)
+        }
+    }
+
+    /// Whether some of the corners are on the triangle's plane, and they lie on both sides of the plane
+    /// of a phase.
+    fn may_want_later(&self, i: u32, corners: &[Point; 4]) -> bool
+        requires index { i < 4 }
+        requires corners_in { All (IsInBox (2 ^ 18)) corners.now }
+        ensures { result ≡ (list_any (lies_on (section_plane self.now)) corners.now && splits (phase_plane self.now i) corners.now) }
+    {
+        self.has_some_on_plane(corners) && self.splits(i, corners)
+    }
+
+    /// Whether some of the points lie on the triangle's plane.
+    fn has_some_on_plane(&self, points: &[Point]) -> bool
+        requires { All (IsInBox (2 ^ 18)) points.now }
+        ensures { result ≡ list_any (lies_on (section_plane self.now)) points.now }
+    {
+        for point in points {
+            if self.is_on_plane(*point) {
+                return true;
+            }
+        }
+        false
+    }
+
+    /// Whether a point lies on the triangle's plane.
+    fn is_on_plane(&self, p: Point) -> bool
+        requires { IsInBox (2 ^ 18) p }
+        ensures { result ≡ lies_on (section_plane self.now) p }
+    {
+        self.has_on_plane(&[p])
     }
 
     /// Whether a phase wants the edge of these ends in a tetrahedron of these corners.

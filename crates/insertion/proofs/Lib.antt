@@ -6,3 +6,6 @@ pub mod Fresh
 pub mod Starting
 pub mod Tiling
 pub mod Covered
+pub mod Turning
+mod RolledBack
+pub mod FreshFaces

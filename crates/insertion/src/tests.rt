@@ -4,13 +4,13 @@ ghost use Rattle.mesh_store.specs.Changes.{IsSameTransaction};
 ghost use Rattle.std.specs.Prelude.{IfOk, IsSome, None, OnOk, pos, ◌<◌, ◌^◌, ◌≡◌, ◌≤◌};
 
 use crate::first::first_inverted;
-use crate::insert;
+use crate::{insert, second_turn};
 use background::lattice;
 use cutter::{first_wanted, phase, section};
 use envelope_tree::Envelope;
 use grid::{Memory, Point, Tri};
 use mesh_store::{Store, StoreIssue};
-use mesh_types::{Cut, Defect, Outcome};
+use mesh_types::{Again, Cut, Defect, Outcome};
 use std::alloc::Global;
 use std::test::Fail;
 
@@ -48,6 +48,23 @@ fn insert_one(alloc: Global, store: &mut Store, tri: Tri, e: u32) -> Result<Opti
     match first_inverted(store.slots(), 0) {
         Some(_) => Ok(None),
         None => Ok(Some(insert(alloc, store, &env, 0, e)?)),
+    }
+}
+
+// Gives one triangle a second turn, where all tetrahedra are positive.
+fn try_again(
+    alloc: Global,
+    store: &mut Store,
+    tri: Tri,
+    outcome: Outcome,
+) -> Result<Vec<Again>, Memory>
+    requires closed { store.old.at_begin ≡ None }
+    requires tri_in { IsTriInBox (2 ^ 18) tri }
+{
+    let env = Envelope::build(alloc, &[tri])?;
+    match first_inverted(store.slots(), 0) {
+        Some(_) => Ok(Vec::new(alloc)),
+        None => second_turn(alloc, store, &env, &[outcome], 2),
     }
 }
 
@@ -183,5 +200,20 @@ fn rolls_back_a_degenerate_triangle(rt: HostRuntime) -> Result<(), Fail> {
         insert_one(alloc, &mut store, tri, 2)?,
         Some(Outcome::RolledBack(Defect::Degenerate))
     );
+    Ok(())
+}
+
+#[test]
+fn inserts_again_what_was_rolled_back(rt: HostRuntime) -> Result<(), Fail> {
+    let alloc = rt.alloc();
+    let mut store = fine_store(alloc)?;
+    let tri = Tri([point(4, 4, 6), point(12, 4, 6), point(12, 12, 6)]);
+    let full = Outcome::RolledBack(Defect::Full);
+    let again = try_again(alloc, &mut store, tri, full)?;
+    let inserted = Again {
+        triangle: 0,
+        outcome: Outcome::Inserted { points: 15 },
+    };
+    assert_eq!(rt; again.as_slice(), [inserted].as_slice());
     Ok(())
 }

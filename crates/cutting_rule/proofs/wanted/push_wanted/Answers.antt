@@ -1,13 +1,11 @@
-use Rattle.std.proofs.Common.{◌≡◌, ◌++◌, refl, sym, ap, ◌∙◌, subst, [], arith, false}
+use Rattle.std.proofs.Common.{◌≡◌, ◌++◌, refl, sym, ap, ◌∙◌, [], arith}
 use Rattle.std.proofs.lemmas.List.{append-nil}
 use Rattle.std.proofs.lemmas.List.Elements.{recursion_from_All}
-use Rattle.mesh_types.specs.CuttingRule.{is_crossed}
-use Rattle.mesh_types.specs.Phases.{points_of, wanted_in}
+use Rattle.mesh_types.specs.Phases.{points_of}
 use Rattle.cutting_rule.specs.declared.edge.Segment.{Segment}
 use Rattle.cutting_rule.specs.Edges.{numbers_of}
 use Rattle.cutting_rule.proofs.Segments.{wanted_of, wanted-segments}
 use Rattle.cutting_rule.proofs.Steps.{flat-step, flat-end}
-use Rattle.cutting_rule.proofs.WantedEdges.{uncrossed-none}
 use Rattle.cutting_rule.proofs.wanted.push_wanted.Goals as goal
 
 abbrev no_segment : Segment
@@ -15,12 +13,8 @@ no_segment = record { edge = record { 0 = [] }; ends = [] }
 
 pub returns-then-not-may_want : goal.returns-then-not-may_want
 returns-then-not-may_want c points e =
-    let none = c.if-not-may_want.ensures.no refl in
-    let t = c.args.triangle.now in
-    let x = c.args.tet.0 in
-    let uncrossed : is_crossed t (points_of points x) ≡ false = subst (λ ps. is_crossed t ps ≡ false) e none.1 in
     sym (append-nil (numbers_of c.args.into.now.items))
-    ∙ ap (λ ys. numbers_of c.args.into.now.items ++ ys) (sym (ap (λ i. wanted_in points t i x) none.0 ∙ uncrossed-none points t x uncrossed))
+    ∙ ap (λ ys. numbers_of c.args.into.now.items ++ ys) (sym (c.if-not-may_want.ensures.no refl points c.args.tet.0 e))
 
 pub push_if_wanted-requires-clause-ends_in : goal.push_if_wanted-requires-clause-ends_in
 push_if_wanted-requires-clause-ends_in c = c.segments-segment-items.ensures.ends_in c.loop-segment.segment-index no_segment (omega arith)
