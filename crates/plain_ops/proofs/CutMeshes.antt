@@ -1,13 +1,12 @@
 -- The mesh after the four phases.
-use Rattle.std.proofs.Common.{◌≡◌, ◌⊎◌, ℕ, ◌+◌, ◌<◌, ◌≤◌, ◌^◌, Bool, true, false, ◌||◌, Option, Some, MatchOption, List, [], ◌∷◌, ◌++◌, map, length, All, refl, sym, ap, ◌∙◌, subst, arith}
-use Rattle.std.specs.List.{list_any, AllByRecursion as Each}
+use Rattle.std.proofs.Common.{◌≡◌, ℕ, ◌+◌, ◌<◌, ◌≤◌, Bool, true, false, ◌||◌, Option, Some, MatchOption, List, ◌++◌, length, All, refl, sym, ap, ◌∙◌, subst}
+use Rattle.std.specs.List.{list_any}
 use Rattle.std.proofs.lemmas.List.Folds.{list_any-append}
 use Rattle.grid.specs.declared.shapes.Face.{Face}
 use Rattle.grid.specs.declared.shapes.Point.{Point}
-use Rattle.grid.specs.declared.shapes.Tet.{Tet}
 use Rattle.grid.specs.declared.shapes.Tri.{Tri}
 use Rattle.grid.specs.Meshes.{Mesh, IsWellFormed, IsTriple}
-use Rattle.grid.specs.Simplices.{IsTet, has_all}
+use Rattle.grid.specs.Simplices.{has_all}
 use Rattle.grid.specs.Views.{triples_of}
 use Rattle.mesh_types.specs.declared.lists.Lists.{Lists}
 use Rattle.mesh_types.specs.Phases.{cut_by, wanted, is_unresolved, section}
@@ -17,7 +16,6 @@ use Rattle.grid.specs.Envelopes.{triangle_at}
 use Rattle.mesh_types.specs.Insertion.{NamesFirst, Has, IsFirstDefect, IsInsertion}
 use Rattle.mesh_types.specs.Tracking.{with_tracked}
 use Rattle.mesh_types.specs.Views.{mesh_of}
-use Rattle.cutting_rule.specs.Until.{until}
 use Rattle.cutting_rule.proofs.SectionTriples.{code-all, lower, section-triples}
 use Rattle.cutting_rule.proofs.Untils.{until-well_formed, until-points}
 use Rattle.std.proofs.lemmas.List.Elements.{recursion_from_All}

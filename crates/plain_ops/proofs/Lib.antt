@@ -4,3 +4,13 @@ mod Refined
 mod Meshes
 mod Tracking
 mod CutMeshes
+mod Filters
+mod Reasons
+mod GoneTets
+mod SingleFaces
+mod BoxEnds
+mod NearPoints
+mod Means
+mod RimPoints
+mod RingSwaps
+mod OneCell

@@ -62,7 +62,7 @@ fn phase(alloc: Global, mesh: &Lists, triangle: &CuttingTriangle, i: u32) -> Res
     Ok(refined)
 }
 
-fn is_within_limits(mesh: &Lists) -> bool
+pub(crate) fn is_within_limits(mesh: &Lists) -> bool
     ensures yes { result ≡ true → IsWithinLimits (mesh_of mesh.now) }
     ensures no { result ≡ false → ¬ IsWithinLimits (mesh_of mesh.now) }
 {

@@ -151,7 +151,7 @@ pub(crate) fn first_stray(points: &[Point], faces: &[Face], tri: &Tri, e: u32) -
     None
 }
 
-fn is_among(face: Face, faces: &[Face]) -> bool
+pub(crate) fn is_among(face: Face, faces: &[Face]) -> bool
     ensures { IsTrue result ↔ Contains (triples_of faces.now) face.0 }
 {
     faces.contains(&face)

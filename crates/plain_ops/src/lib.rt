@@ -2,6 +2,9 @@
 //! whoever wants to see what an operation means. Each equals its definition.
 #![tactic(auto)]
 
+mod after;
+mod attempting;
+mod before;
 mod cutting;
 mod defects;
 mod inserting;
@@ -9,9 +12,13 @@ mod judging;
 mod order;
 mod points;
 mod refining;
+mod results;
+mod swaps;
+mod targets;
 #[cfg(test)]
 mod tests;
 mod wanted;
 
+pub use attempting::{PlainTry, attempt_plain};
 pub use inserting::{PlainInsert, insert_plain};
 pub use refining::refine_plain;

@@ -56,3 +56,15 @@ pub(crate) fn is_positive(points: &[Point], tet: Tet) -> bool
         point_at(points, d),
     ) > 0
 }
+
+/// The point of a number. One that is no point's stands for the origin, as it does in the definitions.
+pub(crate) fn point_or_origin(points: &[Point], u: u32) -> Point
+    ensures value { result ≡ point_at points.now u }
+    ensures within { All (IsInBox (2 ^ 18)) points.now → IsInBox (2 ^ 18) result }
+{
+    if (u as usize) < points.len() {
+        points[u as usize]
+    } else {
+        Point { x: 0, y: 0, z: 0 }
+    }
+}

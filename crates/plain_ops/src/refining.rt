@@ -67,7 +67,12 @@ fn push_pieces(
 }
 
 // The pieces of the tetrahedra that a cut touches.
-fn pieces_of(alloc: Global, cuts: &[Cut], first: u32, tets: &[Tet]) -> Result<Vec<Tet>, Memory>
+pub(crate) fn pieces_of(
+    alloc: Global,
+    cuts: &[Cut],
+    first: u32,
+    tets: &[Tet],
+) -> Result<Vec<Tet>, Memory>
     requires { first + length cuts.now < 2 ^ 32 }
     ensures { IfOk result (λ v. corners_of v.items ≡ flat_map (sub_all first cuts.now) (filter (λ x. is_touched cuts.now x) (corners_of tets.now))) }
 {
@@ -110,7 +115,7 @@ fn triples_split(
 }
 
 // A count of more than 32 bits is answered as want of memory, which that many tetrahedra would be.
-fn made_after(made: u32, pieces: usize) -> Result<u32, Memory>
+pub(crate) fn made_after(made: u32, pieces: usize) -> Result<u32, Memory>
     ensures { IfOk result (λ n. n ≡ made + pieces) }
 {
     if pieces > (u32::MAX - made) as usize {
@@ -153,7 +158,7 @@ fn refined_triples(
     Ok(ordered)
 }
 
-fn count_of(points: &[Point]) -> u32
+pub(crate) fn count_of(points: &[Point]) -> u32
     requires { length points.now ≤ 2 ^ 20 }
     ensures { result ≡ length points.now }
 {

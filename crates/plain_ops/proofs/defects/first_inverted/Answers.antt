@@ -1,4 +1,4 @@
-use Rattle.std.proofs.Common.{◌≡◌, ◌<◌, refl, get_or, arith, [], below_more}
+use Rattle.std.proofs.Common.{refl, arith, [], below_more}
 use Rattle.grid.specs.declared.shapes.Tet.{Tet}
 use Rattle.grid.specs.Determinants.{IsPositive}
 use Rattle.cutting_rule.proofs.Naming.{names-at, all-at}

@@ -1,4 +1,4 @@
-use Rattle.std.proofs.Common.{◌≡◌, ◌<◌, refl, get_or, arith, All, length, ℕ, []}
+use Rattle.std.proofs.Common.{refl, get_or, arith, All, []}
 use Rattle.grid.specs.declared.shapes.Face.{Face}
 use Rattle.grid.specs.Determinants.{point_at}
 use Rattle.grid.specs.Near.{Near}

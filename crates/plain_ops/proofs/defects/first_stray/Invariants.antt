@@ -1,4 +1,4 @@
-use Rattle.std.proofs.Common.{◌≡◌, ◌<◌, ℕ, get_or, All, []}
+use Rattle.std.proofs.Common.{◌<◌, ℕ, get_or, All, []}
 use Rattle.grid.specs.Determinants.{point_at}
 use Rattle.grid.specs.Near.{Near}
 use Rattle.plain_ops.proofs.defects.first_stray.Given as goal

@@ -1,4 +1,4 @@
-use Rattle.std.proofs.Common.{◌<◌, refl, get_or, arith, [], below_more}
+use Rattle.std.proofs.Common.{refl, arith, [], below_more}
 use Rattle.grid.specs.declared.shapes.Face.{Face}
 use Rattle.grid.specs.Views.{triples_of}
 use Rattle.mesh_types.specs.Insertion.{IsUncovered}

@@ -1,4 +1,4 @@
-use Rattle.std.proofs.Common.{◌≡◌, ◌∙◌, ◌<◌, refl, sym, get_or, arith, [], true, false, below_more}
+use Rattle.std.proofs.Common.{◌≡◌, ◌∙◌, sym, arith, [], true, false, below_more}
 use Rattle.std.specs.List.{list_any}
 use Rattle.std.proofs.lemmas.Bool.{true≢false}
 use Rattle.grid.specs.declared.shapes.Tet.{Tet}

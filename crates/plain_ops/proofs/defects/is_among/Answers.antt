@@ -1,4 +1,4 @@
-use Rattle.std.proofs.Common.{◌≡◌, ◌∙◌, sym}
+use Rattle.std.proofs.Common.{◌∙◌, sym}
 use Rattle.plain_ops.proofs.Tracking.{Contains-from_among, among-from_Contains}
 use Rattle.plain_ops.proofs.defects.is_among.Goals as goal
 

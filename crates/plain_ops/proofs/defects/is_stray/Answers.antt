@@ -1,4 +1,4 @@
-use Rattle.std.proofs.Common.{◌≡◌, ◌<◌, refl, get_or, arith, below_more, All, length, ℕ}
+use Rattle.std.proofs.Common.{refl, get_or, arith, below_more}
 use Rattle.grid.specs.Determinants.{point_at}
 use Rattle.grid.specs.Near.{Near}
 use Rattle.cutting_rule.proofs.Naming.{has-at, all-index}

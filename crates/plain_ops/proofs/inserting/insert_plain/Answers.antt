@@ -1,4 +1,4 @@
-use Rattle.std.proofs.Common.{◌≡◌, ◌∙◌, ◌^◌, Option, None, Some, MatchOption, rules, refl, sym, subst}
+use Rattle.std.proofs.Common.{◌∙◌, ◌^◌, Option, None, Some, MatchOption, rules, refl, subst}
 use Rattle.grid.specs.declared.shapes.Tri.{Tri}
 use Rattle.grid.specs.Boxes.{IsTriInBox}
 use Rattle.grid.specs.Envelopes.{triangle_at}

@@ -1,4 +1,4 @@
-use Rattle.std.proofs.Common.{◌≡◌, ◌∙◌, ◌+◌, ◌≤◌, length, List, ap, sym, subst, refl, arith}
+use Rattle.std.proofs.Common.{◌≡◌, ◌∙◌, ◌+◌, length, List, ap, sym, subst, refl, arith}
 use Rattle.grid.specs.declared.shapes.Point.{Point}
 use Rattle.grid.specs.Envelopes.{triangle_at}
 use Rattle.grid.specs.Views.{triples_of}

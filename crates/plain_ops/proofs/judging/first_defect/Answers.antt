@@ -1,5 +1,4 @@
-use Rattle.std.proofs.Common.{◌≡◌, ◌^◌, All, List, sym, ap, subst}
-use Rattle.grid.specs.declared.shapes.Point.{Point}
+use Rattle.std.proofs.Common.{◌^◌, All, sym, subst}
 use Rattle.grid.specs.Boxes.{IsInBox}
 use Rattle.grid.specs.Determinants.{IsPositive}
 use Rattle.grid.specs.Envelopes.{triangle_at}

@@ -1,9 +1,6 @@
-use Rattle.std.proofs.Common.{◌≡◌, ◌^◌, All, Option, None, Some, MatchOption, List, sym, ap, subst}
-use Rattle.grid.specs.declared.shapes.Point.{Point}
-use Rattle.grid.specs.declared.shapes.Tri.{Tri}
+use Rattle.std.proofs.Common.{◌^◌, All, sym, subst}
 use Rattle.grid.specs.Boxes.{IsInBox}
 use Rattle.grid.specs.Envelopes.{triangle_at}
-use Rattle.grid.specs.Meshes.{Mesh}
 use Rattle.grid.specs.Views.{triples_of}
 use Rattle.mesh_types.specs.Insertion.{NamesFirst, IsUncovered}
 use Rattle.mesh_types.specs.Views.{mesh_of}

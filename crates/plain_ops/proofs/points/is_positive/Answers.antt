@@ -1,9 +1,9 @@
-use Rattle.std.proofs.Common.{◌≡◌, ◌∙◌, ◌<◌, ◌<ℤ◌, pos, sym, ap, subst, arith, rules, SFits, IsTrue, ℤ, T, true}
+use Rattle.std.proofs.Common.{◌≡◌, ◌∙◌, ◌<ℤ◌, pos, sym, subst, arith, rules, SFits, IsTrue, ℤ}
 use mir.Syntax.{w128}
 use Rattle.std.proofs.Common.{to_z-of_z}
 use Rattle.std.specs.Int.Signed.{lt_z}
 use Rattle.std.proofs.lemmas.Int.{ints}
-use Rattle.grid.specs.Determinants.{det, det_at, point_at}
+use Rattle.grid.specs.Determinants.{det, det_at}
 use Rattle.cutting_rule.proofs.Naming.{det-four, corner-in}
 use Rattle.plain_ops.proofs.points.is_positive.Goals as goal
 

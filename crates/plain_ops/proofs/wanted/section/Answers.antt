@@ -1,4 +1,4 @@
-use Rattle.std.proofs.Common.{◌≡◌, refl, ap}
+use Rattle.std.proofs.Common.{refl, ap}
 use Rattle.grid.specs.Views.{corners_of}
 use Rattle.mesh_types.specs.Views.{mesh_of}
 use Rattle.cutting_rule.proofs.SectionFaces.{section-is}

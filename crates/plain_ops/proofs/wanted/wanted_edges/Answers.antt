@@ -1,6 +1,4 @@
-use Rattle.std.proofs.Common.{◌≡◌, ◌<◌, All, List, length, refl, ap, sym, subst}
-use Rattle.grid.specs.declared.shapes.Point.{Point}
-use Rattle.grid.specs.declared.shapes.Tet.{Tet}
+use Rattle.std.proofs.Common.{refl, ap}
 use Rattle.grid.specs.Views.{corners_of}
 use Rattle.mesh_types.specs.Views.{mesh_of}
 use Rattle.cutting_rule.proofs.PhaseCuts.{edges-wanted}

@@ -1,4 +1,4 @@
-use Rattle.std.proofs.Common.{◌≡◌, ◌<◌, ◌≤◌, ◌^◌, [], ◌∷◌, refl, ap, arith, get_or}
+use Rattle.std.proofs.Common.{◌^◌, [], refl, arith, get_or}
 use Rattle.grid.specs.declared.shapes.Tet.{Tet}
 use Rattle.mesh_types.specs.Phases.{wanted_in}
 use Rattle.cutting_rule.proofs.Points.{points-in}
