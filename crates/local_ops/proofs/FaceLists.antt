@@ -1,14 +1,9 @@
 -- What holds of faces and of their triples.
-use Rattle.std.proofs.Common.{◌≡◌, ℕ, zero, suc, ◌<◌, ◌≤◌, false, List, [], ◌∷◌, length, get_or, All, refl, inl, inr, arith}
+use Rattle.std.proofs.Common.{ℕ, zero, suc, ◌<◌, List, [], ◌∷◌, length, get_or, All, arith}
 use Rattle.std.specs.List.{AllByRecursion as Each}
-use Rattle.std.proofs.lemmas.Bool.{cases_Bool}
 use Rattle.std.proofs.lemmas.List.Elements.{All-from_recursion, recursion_from_All}
 use Rattle.grid.specs.declared.shapes.Face.{Face}
-use Rattle.grid.specs.Meshes.{IsTriple}
-use Rattle.grid.specs.Simplices.{has}
 use Rattle.grid.specs.Views.{triples_of}
-use Rattle.mesh_types.proofs.WellFormed.{below_each}
-use Rattle.local_ops.specs.Surface.{at_point}
 
 each-triple : (P : List ℕ → Type 0) (fs : List Face) (d : Face) → ((k : ℕ) → k < length fs → P (get_or fs k d).0) → Each P (triples_of fs)
 each-triple P [] d h = tt
@@ -31,14 +26,3 @@ each-face P (f ∷ fs) h = (h.0, each-face P fs h.1)
 
 pub all-faces : (P : List ℕ → Type 0) (fs : List Face) → Each P (triples_of fs) → All (λ (f : Face). P f.0) fs
 all-faces P fs h = All-from_recursion (λ (f : Face). P f.0) fs (each-face P fs h)
-
--- triples of points below n have no number that is not
-pub none-beyond : (n u : ℕ) → n ≤ u → (ts : List (List ℕ)) → Each (IsTriple n) ts → at_point u ts ≡ []
-none-beyond n u l [] h = refl
-none-beyond n u l (t ∷ ts) h =
-    let rest = none-beyond n u l ts h.1 in
-    let none : has t u ≡ false = elim (cases_Bool (has t u)) [
-      | inl e ↦ let k = below_each n t (recursion_from_All (λ c. c < n) t h.0.in_range) u e in absurd (omega arith)
-      | inr e ↦ e
-    ] in
-    rw none rest

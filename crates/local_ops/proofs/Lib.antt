@@ -18,8 +18,14 @@ pub mod Changed
 pub mod Replacing
 pub mod Killed
 pub mod Largest
-pub mod NearSlots
 pub mod Made
 pub mod Pivots
 pub mod Judged
 pub mod FirstStores
+pub mod Moved
+pub mod Becoming
+pub mod Lower
+pub mod Once
+pub mod Aims
+pub mod NearSlots
+pub mod Foreseen

@@ -1,22 +1,25 @@
 -- The slots that a try may kill: they were live, and their tetrahedra are positive.
-use Rattle.std.proofs.Common.{◌≡◌, ℕ, zero, suc, ◌+◌, ◌-◌, ◌<◌, ◌≤◌, Bool, true, false, cond, List, [], ◌∷◌, length, drop, All, refl, sym, ◌∙◌, ap, subst, inl, inr, arith, nat_abs}
-use Rattle.std.specs.List.{AllByRecursion as Each}
+use Rattle.std.proofs.Common.{◌≡◌, ℕ, zero, suc, ◌+◌, ◌-◌, ◌<◌, ◌≤◌, Bool, true, false, cond, List, [], ◌∷◌, map, length, drop, All, refl, sym, ◌∙◌, ap, subst, inl, inr, arith, nat_abs}
+use Rattle.std.specs.List.{list_all, AllByRecursion as Each}
 use Rattle.std.proofs.lemmas.Bool.{cases_Bool, and_parts}
 use Rattle.std.proofs.lemmas.List.{get_or-drop, length-drop}
 use Rattle.std.proofs.lemmas.List.Elements.{All-from_recursion, recursion_from_All}
 use Rattle.grid.specs.Determinants.{IsPositive}
 use Rattle.grid.specs.Meshes.{Mesh}
 use Rattle.mesh_types.specs.declared.tries.Try.{Try}
+use Rattle.mesh_types.specs.Journals.{AllPositive}
+use Rattle.mesh_types.proofs.Chosen.{Each-filter}
 use Rattle.mesh_types.proofs.Covered.{longer_result}
 use Rattle.mesh_types.proofs.Exchange.{IsLonger, positive-longer}
 use Rattle.mesh_types.proofs.Splits.{cornered_tets}
 use Rattle.tet_slots.specs.declared.slot.Slot.{Slot}
 use Rattle.tet_slots.specs.Slots.{slot_at, no_slot}
 use Rattle.tet_slots.specs.Searches.{numbers_of}
-use Rattle.mesh_store.specs.Parts.{StoreView, live_tets, mesh_in}
+use Rattle.mesh_store.specs.Parts.{Parts, StoreView, live_tets, mesh_in}
 use Rattle.mesh_store.proofs.MeshLemmas.{well_formed}
 use Rattle.local_ops.specs.Attempts.{IsMade, start_of, may_go}
 use Rattle.local_ops.specs.Measures.{corners_at}
+use Rattle.local_ops.proofs.Aims.{near-is}
 use Rattle.local_ops.proofs.Killed.{may_go-is}
 use Rattle.local_ops.proofs.Replacing.{is_near}
 
@@ -90,3 +93,22 @@ module _ (t : Try) (v : StoreView) (h : IsMade t v) where
           let p = live-each (IsPositive v.parts.points) (start_of v).slots old-positive i l live in
           let z : 0 + i ≡ i = omega arith in
           rw z (subst (IsPositive v.parts.points) (sym (ap (λ t. t.0) (h.grown.tets i l))) p)
+
+-- ---- before the try
+unmapped : (P : List ℕ → Type 0) (f : ℕ → List ℕ) (xs : List ℕ) → Each P (map f xs) → Each (λ i. P (f i)) xs
+unmapped P f [] h = tt
+unmapped P f (x ∷ xs) h = (h.0, unmapped P f xs h.1)
+
+passing : (q : List ℕ → Bool) (xs : List (List ℕ)) → list_all q xs ≡ true → Each (λ x. q x ≡ true) xs
+passing q [] h = tt
+passing q (x ∷ xs) h = let e = and_parts (q x) (list_all q xs) h in (e.0, passing q xs e.1)
+
+-- the tetrahedra in those slots are positive
+pub near-positive_before : (t : Try) (m : Parts) → AllPositive (mesh_in m) → All (λ i. IsPositive m.points (corners_at m.slots i)) (numbers_of (may_go t) 0 m.slots)
+near-positive_before t m h = All-from_recursion (λ i. IsPositive m.points (corners_at m.slots i)) (numbers_of (may_go t) 0 m.slots)
+    (unmapped (IsPositive m.points) (corners_at m.slots) (numbers_of (may_go t) 0 m.slots)
+    (subst (Each (IsPositive m.points)) (sym (near-is t m.slots)) (Each-filter (IsPositive m.points) (is_near t) (live_tets m.slots) (recursion_from_All (IsPositive m.points) (live_tets m.slots) h))))
+
+-- what they pass, each does
+pub near-pass : (q : List ℕ → Bool) (slots : List Slot) (xs : List ℕ) → list_all q (map (corners_at slots) xs) ≡ true → All (λ i. q (corners_at slots i) ≡ true) xs
+near-pass q slots xs h = All-from_recursion (λ i. q (corners_at slots i) ≡ true) xs (unmapped (λ x. q x ≡ true) (corners_at slots) xs (passing q (map (corners_at slots) xs) h))

@@ -3,3 +3,5 @@ pub mod Surface
 pub mod Covering
 pub mod Smoothing
 pub mod Attempts
+pub mod Foreseen
+pub mod Apart

@@ -24,10 +24,16 @@ pub(crate) struct Before {
     pub faces: Vec<Face>,
 }
 
-pub(crate) fn read(alloc: Global, store: &Store, attempt: Try) -> Result<Before, Memory>
+/// Reads it; `near` are the slots that the try may kill.
+pub(crate) fn read(
+    alloc: Global,
+    store: &Store,
+    attempt: Try,
+    near: Vec<u32>,
+) -> Result<Before, Memory>
+    requires { near.items ≡ numbers_of (may_go attempt) 0 store.now.parts.slots }
     ensures { IfOk result (IsBefore attempt store.now.parts) }
 {
-    let near = near_slots(alloc, store.slots(), attempt)?;
     let pivot = pivot(store.slots().points(), attempt);
     let faces = faces_at(alloc, store, pivot)?;
     Ok(Before {
@@ -38,7 +44,8 @@ pub(crate) fn read(alloc: Global, store: &Store, attempt: Try) -> Result<Before,
     })
 }
 
-fn near_slots(alloc: Global, slots: &Slots, attempt: Try) -> Result<Vec<u32>, Memory>
+/// The slots that the try may kill.
+pub(crate) fn near_slots(alloc: Global, slots: &Slots, attempt: Try) -> Result<Vec<u32>, Memory>
     ensures { IfOk result (λ v. v.items ≡ numbers_of (may_go attempt) 0 slots.now.slots) }
 {
     let mut near = Vec::new(alloc);

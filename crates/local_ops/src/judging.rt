@@ -3,7 +3,7 @@ ghost use Rattle.local_ops.specs.Attempts.{IsBefore, IsMade, PassesBelow, start_
 ghost use Rattle.mesh_store.specs.Parts.{mesh_in};
 ghost use Rattle.mesh_types.specs.Journals.{setting};
 ghost use Rattle.mesh_types.specs.Verdicts.{IsVerdict};
-ghost use Rattle.std.specs.Prelude.{IfOk, ◌≤◌};
+ghost use Rattle.std.specs.Prelude.{IfOk, IsTrue, ◌≤◌};
 
 use crate::before::Before;
 use crate::covering::are_covered;
@@ -15,7 +15,8 @@ use mesh_store::Store;
 use mesh_types::{Try, Verdict, Why};
 use std::alloc::Global;
 
-/// Inverted, Doubled, Worse or Uncovered, the first of them that holds, else Kept.
+/// Inverted, Doubled, Worse or Uncovered, the first of them that holds, else Kept. `better` says that only
+/// the last can hold.
 pub(crate) fn judge(
     alloc: Global,
     store: &Store,
@@ -23,13 +24,18 @@ pub(crate) fn judge(
     e: u32,
     attempt: Try,
     before: &Before,
+    better: bool,
 ) -> Result<Verdict, Memory>
     requires e_in { e ≤ 4095 }
     requires made { IsMade attempt store.now }
     requires before { IsBefore attempt (start_of store.now) before.now }
     requires passed { PassesBelow (setting env.now e store.now.side) (mesh_in (start_of store.now)) attempt 4 }
+    requires better { IsTrue better → PassesBelow (setting env.now e store.now.side) (mesh_in (start_of store.now)) attempt 7 }
     ensures { IfOk result (IsVerdict (setting env.now e store.now.side) (mesh_in (start_of store.now)) attempt) }
 {
+    if better {
+        return judge_better(alloc, store, env, e, attempt, before);
+    }
     if all_positive(store.slots(), before.made) {
         judge_positive(alloc, store, env, e, attempt, before)
     } else {

@@ -2,13 +2,16 @@
 //! is refused leaves the mesh as it was.
 #![tactic(auto)]
 
+mod apart;
 mod attempts;
 mod before;
 mod candidates;
 mod changing;
 mod covering;
+mod foreseeing;
 mod judging;
 mod measures;
+mod moving;
 mod refusals;
 mod sides;
 mod single;
@@ -17,5 +20,5 @@ mod surface;
 #[cfg(test)]
 mod tests;
 
-pub use attempts::attempt;
+pub use attempts::{attempt, attempt_on_once};
 pub use candidates::is_candidate;

@@ -80,6 +80,20 @@ pub(crate) fn largest_dead(slots: &Slots, numbers: &[u32]) -> u128
     most
 }
 
+/// The largest energy of the tetrahedra in these slots, and 0 where there is none.
+pub(crate) fn largest_at(slots: &Slots, numbers: &[u32]) -> u128
+    requires in_box { All (IsInBox (2 ^ 18)) slots.now.points }
+    requires there { All (λ i. i < length slots.now.slots) numbers.now }
+    requires positive { All (λ i. IsPositive slots.now.points (corners_at slots.now.slots i)) numbers.now }
+    ensures { result ≡ largest (map (energy_at slots.now.points) (map (corners_at slots.now.slots) numbers.now)) }
+{
+    let mut most = 0;
+    for slot in numbers {
+        most = most.max(energy_of(slots, slots.tet(*slot)));
+    }
+    most
+}
+
 fn energy_of(slots: &Slots, tet: Tet) -> u128
     requires in_box { All (IsInBox (2 ^ 18)) slots.now.points }
     requires there { IsTet (length slots.now.points) tet.0 }

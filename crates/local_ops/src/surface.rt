@@ -1,4 +1,5 @@
 // Tests of the tracked faces before a try.
+ghost use Rattle.grid.specs.Meshes.{Ordered};
 ghost use Rattle.grid.specs.Rims.{IsRim, triples_at};
 ghost use Rattle.grid.specs.Simplices.{has, replaced, rising};
 ghost use Rattle.grid.specs.Views.{triples_of};
@@ -7,7 +8,7 @@ ghost use Rattle.mesh_store.specs.Parts.{mesh_in};
 ghost use Rattle.mesh_types.specs.Tries.{is_candidate};
 ghost use Rattle.mesh_types.specs.Verdicts.{KeepsSurface, PassesTracked};
 ghost use Rattle.std.specs.List.{list_all, list_any};
-ghost use Rattle.std.specs.Prelude.{IfOk, IsTrue, OnOk, [], length, nat_eq, nat_lt, true, ◌&&◌, ◌∷◌, ◌++◌, ◌≡◌, ◌≢◌, ◌↔◌};
+ghost use Rattle.std.specs.Prelude.{IfOk, IsTrue, List, length, nat_eq, nat_lt, true, ℕ, ◌&&◌, ◌≡◌, ◌≢◌, ◌↔◌};
 ghost use Rattle.std.specs.Str.{bytes_eq};
 
 use grid::{Face, Memory};
@@ -50,35 +51,23 @@ fn faces_at_edge(store: &Store, u: u32, v: u32) -> u32
     store.tracked().count2(u, v)
 }
 
-/// The tracked faces that have u, in rising order. There are none where u is no point yet.
+/// The tracked faces that have u, in rising order.
 pub(crate) fn faces_at(alloc: Global, store: &Store, u: u32) -> Result<Vec<Face>, Memory>
     ensures { IfOk result (λ v. triples_of v.items ≡ at_point u (mesh_in store.now.parts).tracked) }
 {
-    if u >= store.slots().points() {
-        return Ok(Vec::new(alloc));
-    }
-    let faces = store.tracked().list(alloc)?;
-    chosen(alloc, &faces, u)
+    let mut faces = Vec::new(alloc);
+    store.tracked().at_point(u, &mut faces)?;
+    rise(&mut faces);
+    Ok(faces)
 }
 
-/// Those of the faces that have u.
-fn chosen(alloc: Global, faces: &[Face], u: u32) -> Result<Vec<Face>, Memory>
-    ensures { IfOk result (λ v. triples_of v.items ≡ at_point u (triples_of faces.now)) }
+/// Puts faces into rising order, each once. Takes no memory.
+fn rise(faces: &mut Vec<Face>)
+    ensures ordered { Ordered (triples_of faces.new.items) }
+    ensures same { (x : List ℕ) → list_any (bytes_eq x) (triples_of faces.new.items) ≡ list_any (bytes_eq x) (triples_of faces.old.items) }
 {
-    let mut found = Vec::new(alloc);
-    for face in faces {
-        push_at(&mut found, *face, u)?;
-    }
-    Ok(found)
-}
-
-fn push_at(found: &mut Vec<Face>, face: Face, u: u32) -> Result<(), Memory>
-    ensures { OnOk result (triples_of found.new.items ≡ triples_of found.old.items ++ at_point u (face.0 ∷ [])) }
-{
-    if face.has_corner(u) {
-        found.push(face)?;
-    }
-    Ok(())
+    faces.sort_unstable();
+    faces.dedup();
 }
 
 /// Whether the collapse of u into v keeps the tracked faces a surface: where some has u some has both,

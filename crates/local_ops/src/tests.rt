@@ -2,7 +2,8 @@ ghost use Rattle.grid.specs.Limits.{IsCells};
 ghost use Rattle.grid.specs.Meshes.{IsTriple};
 ghost use Rattle.mesh_store.specs.Parts.{mesh_in};
 ghost use Rattle.mesh_types.specs.Journals.{AllPositive};
-ghost use Rattle.std.specs.Prelude.{All, IfOk, None, length, ◌*◌, ◌≡◌, ◌≤◌};
+ghost use Rattle.mesh_types.specs.Tries.{is_candidate};
+ghost use Rattle.std.specs.Prelude.{All, IfOk, None, Ok, length, true, ◌*◌, ◌≡◌, ◌≤◌};
 
 use crate::{attempt, is_candidate};
 use background::lattice;
@@ -142,5 +143,59 @@ fn refuses_a_doubled_face(rt: HostRuntime) -> Result<(), Fail> {
     let before = [Tet([0, 1, 2, 3]), Tet([0, 2, 1, 4]), Tet([4, 1, 2, 3])];
     assert_eq!(rt; lists.tets.as_slice(), &before[..]);
     assert_eq!(rt; lists.made, 3);
+    Ok(())
+}
+
+/// A lattice of 196608 tetrahedra.
+fn large_store(alloc: Global) -> Result<Store, Memory>
+    ensures closed { IfOk result (λ s. s.at_begin ≡ None) }
+    ensures positive { IfOk result (λ s. AllPositive (mesh_in s.parts)) }
+{
+    let start = lattice(alloc, 262144, 32)?;
+    Store::new(alloc, &start, 262144)
+}
+
+/// Whether the try is refused, as it makes the mesh worse. It can be made again then.
+fn is_worse(alloc: Global, store: &mut Store, env: &Envelope, try_made: Try) -> Result<bool, Memory>
+    requires closed { store.old.at_begin ≡ None }
+    requires positive { AllPositive (mesh_in store.old.parts) }
+    requires candidate { is_candidate (mesh_in store.old.parts).tets try_made ≡ true }
+    ensures closed { store.new.at_begin ≡ None }
+    ensures same { result ≡ Ok true → mesh_in store.new.parts ≡ mesh_in store.old.parts }
+{
+    let verdict = attempt(alloc, store, env, 2, try_made)?;
+    match verdict {
+        Verdict::Refused(Why::Worse) => Ok(true),
+        _ => Ok(false),
+    }
+}
+
+/// Whether the try is refused so many times in turn, as it makes the mesh worse.
+fn is_always_worse(
+    alloc: Global,
+    store: &mut Store,
+    try_made: Try,
+    times: u32,
+) -> Result<bool, Memory>
+    requires closed { store.old.at_begin ≡ None }
+    requires positive { AllPositive (mesh_in store.old.parts) }
+    requires candidate { is_candidate (mesh_in store.old.parts).tets try_made ≡ true }
+{
+    let env = Envelope::build(alloc, &[])?;
+    for _ in 0..times {
+        if !is_worse(alloc, store, &env, try_made)? {
+            return Ok(false);
+        }
+    }
+    Ok(true)
+}
+
+#[test]
+fn a_try_costs_its_neighbourhood(rt: HostRuntime) -> Result<(), Fail> {
+    let alloc = rt.alloc();
+    let mut store = large_store(alloc)?;
+    let split = Try::Split(0, 1);
+    assert!(rt; is_candidate(&store, &split));
+    assert!(rt; is_always_worse(alloc, &mut store, split, 100_000)?);
     Ok(())
 }

@@ -1,0 +1,10 @@
+use Rattle.local_ops.proofs.foreseeing.foreseen.Goals as goal
+
+pub returns-in-Split : goal.returns-in-Split
+returns-in-Split c = rw c.in-Split.is c.split_seen.ensures
+
+pub returns-in-Shift : goal.returns-in-Shift
+returns-in-Shift c = rw c.in-Shift.is c.shift_seen.ensures
+
+pub returns-in-Collapse : goal.returns-in-Collapse
+returns-in-Collapse c = rw c.in-Collapse.is c.collapse_seen.ensures
