@@ -1,7 +1,3 @@
-mod Saying
-mod Writing
-mod Soups
-mod Making
+mod Behind
 mod Working
 mod Answering
-mod OneOutput

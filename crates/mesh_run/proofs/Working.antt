@@ -1,228 +1,176 @@
--- What a run answers to a job, by how far it came.
-use Rattle.std.proofs.Common.{◌≡◌, ◌⊎◌, inl, inr, ℕ, ◌≤◌, ◌<◌, true, false, List, length, Vec, Option, None, Some, Result, Ok, Err, refl, sym, ap, subst, ◌∙◌, arith, lit<}
-use Rattle.std.proofs.lemmas.Bool.{lt-ltb, le-ltb, cases_Bool}
-use Rattle.std.specs.declared.alloc.Global.{Global}
-use Rattle.soup.specs.declared.raw.Soup.{Soup}
-use Rattle.mesh_io.specs.Faults.{Rose}
+-- What the commands that mesh a soup answer, by how far they came.
+use Rattle.std.proofs.Common.{◌≡◌, ◌⊎◌, inl, inr, ℕ, true, List, [], ◌∷◌, Ok, Err, refl, sym, ◌∙◌, arith, lit<, lit≤}
+use Rattle.std.proofs.lemmas.List.Elements.{All-head}
 use Rattle.mesh_io.specs.Folder.{FolderState, ReadCall, ReadRose, WriteRose}
-use Rattle.mesh_io.specs.Read.{ReadsAll}
 use Rattle.mesh_io.specs.Sink.{SinkState, SinkRose}
-use Rattle.mesh_io.specs.declared.read.ReadIssue.{ReadIssue}
-use Rattle.mesh_io.specs.declared.read.ReadIssue.TheVariants as read_issue
-use Rattle.off_text.specs.Grammar.{reads}
-use Rattle.mesh_run.specs.declared.input.InputIssue.{InputIssue}
-use Rattle.mesh_run.specs.declared.input.InputIssue.TheVariants as input_issue
-use Rattle.mesh_run.specs.declared.written.OutFile.{OutFile}
-use Rattle.mesh_run.specs.declared.written.Texts.{Texts}
+use Rattle.printing.specs.Printed.{Says, memory_line}
+use Rattle.soup.specs.declared.raw.Soup.{Soup}
 use Rattle.tet_words.specs.declared.job.MeshJob.{MeshJob}
-use Rattle.mesh_run.specs.Printed.{Says, too_long_line, memory_line}
-use Rattle.mesh_run.specs.Input.{most_bytes, text_in, input_of, off_line, too_wide_line}
-use Rattle.mesh_run.specs.Issues.{Explains, input_line, input_status, read_line, read_status}
-use Rattle.mesh_run.specs.Written.{AreWhole, last_written, IsUncreated, IsCutShort, IsCutAt, IsFileFault, IsCutOff, Writes}
-use Rattle.mesh_run.specs.Made.{IsMade}
-use Rattle.mesh_run.specs.Run.{Gives, NothingWritten, Works}
+use Rattle.tet_words.specs.declared.job.DemoJob.{DemoJob}
+use Rattle.tet_words.specs.Facts.{IsMeshJob, IsDemoJob}
+use Rattle.inputs.specs.Placed.{IsBoxed}
+use Rattle.inputs.specs.Readings.{Gives}
+use Rattle.inputs.specs.declared.issue.InputIssue.{InputIssue}
+use Rattle.inputs.specs.Answers.{Reads, NothingWritten, IsOutOfMemory, issue_line, issue_status}
+use Rattle.inputs.proofs.Ones.{IsOne}
+use Rattle.inputs.proofs.Inputs.{soup_file-IsOne}
+use Rattle.inputs.proofs.Answering.{differ, answers_issue, known_status, other_status, accepted_not}
+use Rattle.outputs.specs.declared.asked.Asked.{Asked}
+use Rattle.outputs.specs.declared.asked.Names.{Names}
+use Rattle.outputs.specs.declared.written.OutFile.{OutFile}
+use Rattle.outputs.specs.declared.written.Texts.{Texts}
+use Rattle.outputs.specs.Made.{IsAsked, IsMade}
+use Rattle.outputs.specs.Written.{Writes}
+use Rattle.acceptance.specs.InFolder.{IsShort, AreShort, IsFoundGood}
+use Rattle.acceptance.proofs.Acceptable.{accepted}
+use Rattle.acceptance.proofs.InFolder.{found_good, found_good_beside, field_gives, first_there}
+use Rattle.mesh_run.specs.Meshing.{IsOut, IsCutOut, Finishes, asked_of, names_of, mesh_inputs, IsDone, Meshes, demo_asked, demo_names, demo_files, demo_soup, demo_check, Demos}
+use Rattle.mesh_run.proofs.Behind.{write_rose_of, whole_of, cut_off_of, cause_of}
 
--- ---- the input as it was read
-content_same : {a b : List ℕ} (o : Option (List ℕ)) → o ≡ Some a → o ≡ Some b → a ≡ b
-content_same o f g = cc
+-- ---- behind an accepted soup
+same_folder : (old : FolderState) → NothingWritten old old
+same_folder old = record { files = refl; writing = record { created = refl; writing = refl } }
 
--- the input's answer is that of its content
-said : (job : MeshJob) (old : FolderState) (bytes other : List ℕ) → old.files job.input ≡ Some bytes → old.files job.input ≡ Some other → input_of job other ≡ input_of job bytes
-said job old bytes other f g = ap (input_of job) (content_same (old.files job.input) g f)
-
-short_input : (job : MeshJob) (bytes : List ℕ) → length bytes ≤ most_bytes → input_of job bytes ≡ text_in job (reads bytes)
-short_input job bytes le = rw (le-ltb most_bytes (length bytes) le) refl
-
-long_input : (job : MeshJob) (bytes : List ℕ) → most_bytes < length bytes → input_of job bytes ≡ Err (too_long_line job.input)
-long_input job bytes lt = rw (lt-ltb most_bytes (length bytes) lt) refl
-
-nothing : (old new : FolderState) → ReadCall old new → NothingWritten old new
-nothing old new call = record { files = call.files; writing = call.writing }
-
--- an input that is there is not missing
-there_clash : {X : Type 0} (o : Option (List ℕ)) (bytes : List ℕ) → o ≡ Some bytes → o ≡ None → X
-there_clash o bytes f g = cc
-
--- an accepted input is not refused
-answer_clash : {X : Type 0} {soup : Soup} {line : List ℕ} (r : Result Soup (List ℕ)) → r ≡ Ok soup → r ≡ Err line → X
-answer_clash r f g = cc
-
--- ---- other statuses
-apart : {X : Type 0} (a b : ℕ) → a < b → a ≡ b → X
-apart a b lt e = absurd (omega (arith, lt, e))
-
--- ---- an input that was not read
-pub unread : (job : MeshJob) (old new : FolderState) (before after : SinkState) (issue : ReadIssue) → ReadsAll old new job.input most_bytes (Err issue) → Says before after (read_line job.input issue) → Works job old new before after (read_status issue)
-unread job old new before after read_issue.Missing reads_it says = record {
-  known = inr (inr (inl refl));
-  done = λ e. apart 0 4 (lit< tt) (sym e);
-  refused = λ e. apart 3 4 (lit< tt) (sym e);
-  unread = λ e. record { cause = inl (says, (reads_it.missing refl).told, (reads_it.missing refl).count); rose_or_missing = missing_cause (cases_Bool old.told); nothing = nothing old new reads_it.call };
-  cut = λ e. apart 4 5 (lit< tt) e;
-  out_of_memory = λ e. apart 4 6 (lit< tt) e;
-  refused_there = λ told line r. there_clash (old.files job.input) r.0 r.1 ((reads_it.missing refl).told told);
-  missing_there = λ told none. inl refl;
-  accepted_there = λ told soup g. there_clash (old.files job.input) g.0 g.1 ((reads_it.missing refl).told told);
-}
-  where
-    missing_cause : (old.told ≡ true) ⊎ (old.told ≡ false) → ReadRose old new ⊎ ((old.told ≡ true) × (old.files job.input ≡ None))
-    missing_cause (inl told) = inr (told, (reads_it.missing refl).told told)
-    missing_cause (inr untold) = inl ((reads_it.missing refl).untold untold)
-unread job old new before after read_issue.Failed reads_it says = record {
-  known = inr (inr (inl refl));
-  done = λ e. apart 0 4 (lit< tt) (sym e);
-  refused = λ e. apart 3 4 (lit< tt) (sym e);
-  unread = λ e. record { cause = inr (says, reads_it.failed refl); rose_or_missing = inl (reads_it.failed refl); nothing = nothing old new reads_it.call };
-  cut = λ e. apart 4 5 (lit< tt) e;
-  out_of_memory = λ e. apart 4 6 (lit< tt) e;
-  refused_there = λ told line r. inl (reads_it.failed refl);
-  missing_there = λ told none. inl refl;
-  accepted_there = λ told soup g. inl (reads_it.failed refl);
-}
-unread job old new before after read_issue.TooLong reads_it says = record {
-  known = inr (inl refl);
-  done = λ e. apart 0 3 (lit< tt) (sym e);
-  refused = λ e. record { line = too_long_line job.input; refused = λ told. let l = reads_it.too_long refl told in (l.0, l.1, long_input job l.0 l.2); printed = says; nothing = nothing old new reads_it.call };
-  unread = λ e. apart 3 4 (lit< tt) e;
-  cut = λ e. apart 3 5 (lit< tt) e;
-  out_of_memory = λ e. apart 3 6 (lit< tt) e;
-  refused_there = λ told line r. inr (inl refl);
-  missing_there = λ told none. let l = reads_it.too_long refl told in there_clash (old.files job.input) l.0 l.1 none;
-  accepted_there = λ told soup g.
-      let l = reads_it.too_long refl told in
-      answer_clash (input_of job g.0) g.2 (said job old l.0 g.0 l.1 g.1 ∙ long_input job l.0 l.2);
-}
-unread job old new before after read_issue.Memory reads_it says = record {
-  known = inr (inr (inr (inr refl)));
-  done = λ e. apart 0 6 (lit< tt) (sym e);
-  refused = λ e. apart 3 6 (lit< tt) (sym e);
-  unread = λ e. apart 4 6 (lit< tt) (sym e);
-  cut = λ e. apart 5 6 (lit< tt) (sym e);
-  out_of_memory = λ e. record { printed = says; nothing = nothing old new reads_it.call };
-  refused_there = λ told line r. inr (inr refl);
-  missing_there = λ told none. let there = reads_it.memory refl told in there_clash (old.files job.input) there.0 there.1 none;
-  accepted_there = λ told soup g. inr (inr (inr (inr refl)));
+pub no_texts : (asked : Asked) (names : Names) (first : List OutFile) (soup : Soup) (old : FolderState) (before after : SinkState) → Says before after memory_line → Finishes asked names first soup old old before after 6
+no_texts asked names first soup old before after says = record {
+  known = inr (inr refl);
+  done = λ e. differ 0 6 (lit< tt) (sym e);
+  cut = λ e. differ 5 6 (lit< tt) (sym e);
+  out_of_memory = λ e. record { printed = says; nothing = same_folder old };
+  all_there = inr (inr (inr refl));
 }
 
--- ---- an input that was read
--- memory ran out behind it
-pub out_of_memory : (job : MeshJob) (old new : FolderState) (before after : SinkState) (bytes : Vec ℕ Global) → ReadsAll old new job.input most_bytes (Ok bytes) → Says before after memory_line → Works job old new before after 6
-out_of_memory job old new before after bytes reads_it says = record {
-  known = inr (inr (inr (inr refl)));
-  done = λ e. apart 0 6 (lit< tt) (sym e);
-  refused = λ e. apart 3 6 (lit< tt) (sym e);
-  unread = λ e. apart 4 6 (lit< tt) (sym e);
-  cut = λ e. apart 5 6 (lit< tt) (sym e);
-  out_of_memory = λ e. record { printed = says; nothing = nothing old new reads_it.call };
-  refused_there = λ told line r. inr (inr refl);
-  missing_there = λ told none. there_clash (old.files job.input) bytes.items (reads_it.ok told) none;
-  accepted_there = λ told soup g. inr (inr (inr (inr refl)));
-}
-
--- it is refused with that line
-refused_with : (job : MeshJob) (old new : FolderState) (before after : SinkState) (bytes : Vec ℕ Global) (line : List ℕ) → ReadsAll old new job.input most_bytes (Ok bytes) → text_in job (reads bytes.items) ≡ Err line → Says before after line → Works job old new before after 3
-refused_with job old new before after bytes line reads_it is says = record {
-  known = inr (inl refl);
-  done = λ e. apart 0 3 (lit< tt) (sym e);
-  refused = λ e. record { line = line; refused = λ told. (bytes.items, reads_it.ok told, short_input job bytes.items reads_it.fits ∙ is); printed = says; nothing = nothing old new reads_it.call };
-  unread = λ e. apart 3 4 (lit< tt) e;
-  cut = λ e. apart 3 5 (lit< tt) e;
-  out_of_memory = λ e. apart 3 6 (lit< tt) e;
-  refused_there = λ told other r. inr (inl refl);
-  missing_there = λ told none. there_clash (old.files job.input) bytes.items (reads_it.ok told) none;
-  accepted_there = λ told soup g. answer_clash (input_of job g.0) g.2 (said job old bytes.items g.0 (reads_it.ok told) g.1 ∙ short_input job bytes.items reads_it.fits ∙ is);
-}
-
-pub unaccepted : (job : MeshJob) (old new : FolderState) (before after : SinkState) (bytes : Vec ℕ Global) (issue : InputIssue) → ReadsAll old new job.input most_bytes (Ok bytes) → Explains issue (text_in job (reads bytes.items)) → Says before after (input_line issue) → Works job old new before after (input_status issue)
-unaccepted job old new before after bytes (input_issue.Off kind place) reads_it is says = refused_with job old new before after bytes (off_line kind place) reads_it is says
-unaccepted job old new before after bytes (input_issue.TooWide wide) reads_it is says = refused_with job old new before after bytes (too_wide_line wide) reads_it is says
-unaccepted job old new before after bytes input_issue.Memory reads_it is says = out_of_memory job old new before after bytes reads_it says
-
--- ---- the writes
-write_rose_of : (old mid new : FolderState) → ReadCall old mid → WriteRose mid new → WriteRose old new
-write_rose_of old mid new call rose = record {
-  may_fail = sym call.kind.may_fail_writing ∙ rose.may_fail;
-  rose = subst (λ (n : ℕ). Rose n new.write_faults) call.other_count rose.rose;
-}
-
-read_rose_of : (old mid new : FolderState) → new.read_faults ≡ mid.read_faults → ReadRose old mid → ReadRose old new
-read_rose_of old mid new same rose = record { may_fail = rose.may_fail; rose = subst (λ (n : ℕ). Rose old.read_faults n) (sym same) rose.rose }
-
--- what was not read has not been written
-cut_at_of : (earlier : List OutFile) (file : OutFile) (old mid new : FolderState) → ReadCall old mid → IsCutAt earlier file mid new → IsCutAt earlier file old new
-cut_at_of earlier file old mid new call cut = record {
-  each = cut.each;
-  cut = cause cut.cut;
-  others = λ name h ne. cut.others name h ne ∙ (λ i. call.files i name);
-}
-  where
-    cause : IsUncreated earlier file mid new ⊎ IsCutShort file new → IsUncreated earlier file old new ⊎ IsCutShort file new
-    cause (inl none) = inl (record { here = none.here ∙ (λ i. call.files i file.name); writing = none.writing ∙ ap (λ name. last_written name earlier) call.writing.writing })
-    cause (inr front) = inr front
-
-file_fault_of : (outs : List OutFile) (file : OutFile) (old mid new : FolderState) → ReadCall old mid → IsFileFault outs file mid new → IsFileFault outs file old new
-file_fault_of outs file old mid new call fault = record {
-  earlier = fault.earlier;
-  later = fault.later;
-  splits = fault.splits;
-  rose = write_rose_of old mid new call fault.rose;
-  files = λ told. cut_at_of fault.earlier file old mid new call (fault.files (call.kind.told ∙ told));
-}
-
-whole_of : (outs : List OutFile) (old mid new : FolderState) → ReadCall old mid → (mid.told ≡ true → AreWhole outs mid.files new.files) → old.told ≡ true → AreWhole outs old.files new.files
-whole_of outs old mid new call whole told = subst (λ f. AreWhole outs f new.files) call.files (whole (call.kind.told ∙ told))
-
-cut_off_of : (texts : Texts) (old mid new : FolderState) (before after : SinkState) → ReadCall old mid → IsCutOff texts mid new before after → IsCutOff texts old new before after
-cut_off_of texts old mid new before after call (inl at_file) = inl (record { file = at_file.file; fault = file_fault_of texts.files at_file.file old mid new call at_file.fault; line = at_file.line })
-cut_off_of texts old mid new before after call (inr at_output) = inr (record { rose = at_output.rose; files = whole_of texts.files old mid new call at_output.files; printed = at_output.printed })
-
-cause_of : (texts : Texts) (old new : FolderState) (before after : SinkState) → IsCutOff texts old new before after → WriteRose old new ⊎ SinkRose before after
-cause_of texts old new before after (inl at_file) = inl at_file.fault.rose
-cause_of texts old new before after (inr at_output) = inr at_output.rose
-
--- neither 0 nor 5
-other_status : {X : Type 0} (status : ℕ) → (status ≡ 3) ⊎ ((status ≡ 4) ⊎ (status ≡ 6)) → (status ≡ 0) ⊎ (status ≡ 5) → X
-other_status status (inl e) (inl k) = let no : 3 ≡ 0 = sym e ∙ k in cc
-other_status status (inl e) (inr k) = let no : 3 ≡ 5 = sym e ∙ k in cc
-other_status status (inr (inl e)) (inl k) = let no : 4 ≡ 0 = sym e ∙ k in cc
-other_status status (inr (inl e)) (inr k) = let no : 4 ≡ 5 = sym e ∙ k in cc
-other_status status (inr (inr e)) (inl k) = let no : 6 ≡ 0 = sym e ∙ k in cc
-other_status status (inr (inr e)) (inr k) = let no : 6 ≡ 5 = sym e ∙ k in cc
-
--- the input was accepted, and its texts were written as far as the writes went
-pub accepted : (job : MeshJob) (old mid new : FolderState) (before after : SinkState) (bytes : Vec ℕ Global) (soup : Soup) (texts : Texts) (status : ℕ) → ReadsAll old mid job.input most_bytes (Ok bytes) → text_in job (reads bytes.items) ≡ Ok soup → IsMade job soup texts → Writes texts mid new before after status → Works job old new before after status
-accepted job old mid new before after bytes soup texts status reads_it is made writes = record {
+pub written : (asked : Asked) (names : Names) (first : List OutFile) (soup : Soup) (texts : Texts) → IsAsked asked → IsBoxed asked.epsilon asked.cells soup → (old new : FolderState) (before after : SinkState) (status : ℕ) → IsMade asked names first soup texts → Writes texts old new before after status → Finishes asked names first soup old new before after status
+written asked names first soup texts is_asked boxed old new before after status made writes = record {
   known = known_of writes.known;
-  done = λ zero_is. record {
-    soup = soup;
-    accepted = gives;
+  done = λ e. record {
     texts = texts;
     made = made;
-    written = record { files = whole_of texts.files old mid new reads_it.call (writes.done zero_is).files; line = (writes.done zero_is).line };
+    accepted = accepted asked soup made.made made.regions (record { is_asked = is_asked; boxed = boxed; meshed = made.meshed }) made.are_regions;
+    written = writes.done e;
   };
-  refused = λ e. other_status status (inl e) writes.known;
-  unread = λ e. other_status status (inr (inl e)) writes.known;
-  cut = λ five. record { soup = soup; accepted = gives; texts = texts; made = made; cut = cut_off_of texts old mid new before after reads_it.call (writes.cut five) };
-  out_of_memory = λ e. other_status status (inr (inr e)) writes.known;
-  refused_there = λ told line r. answer_clash (input_of job r.0) (said job old bytes.items r.0 (reads_it.ok told) r.1 ∙ answer) r.2;
-  missing_there = λ told none. there_clash (old.files job.input) bytes.items (reads_it.ok told) none;
-  accepted_there = λ told other g. inr (ends writes.known);
+  cut = λ e. record { texts = texts; made = made; cut = writes.cut e };
+  out_of_memory = λ e. not_six writes.known e;
+  all_there = ends writes.known;
 }
   where
-    answer : input_of job bytes.items ≡ Ok soup
-    answer = short_input job bytes.items reads_it.fits ∙ is
-
-    gives : old.told ≡ true → Gives job old soup
-    gives told = (bytes.items, reads_it.ok told, answer)
-
-    known_of : (status ≡ 0) ⊎ (status ≡ 5) → (status ≡ 0) ⊎ ((status ≡ 3) ⊎ ((status ≡ 4) ⊎ ((status ≡ 5) ⊎ (status ≡ 6))))
+    known_of : (status ≡ 0) ⊎ (status ≡ 5) → (status ≡ 0) ⊎ ((status ≡ 5) ⊎ (status ≡ 6))
     known_of (inl e) = inl e
-    known_of (inr e) = inr (inr (inr (inl e)))
+    known_of (inr e) = inr (inl e)
+
+    not_six : {X : Type 0} → (status ≡ 0) ⊎ (status ≡ 5) → status ≡ 6 → X
+    not_six (inl e) f = absurd (omega (arith, e, f))
+    not_six (inr e) f = absurd (omega (arith, e, f))
+
+    by_cause : WriteRose old new ⊎ SinkRose before after → WriteRose old new ⊎ (SinkRose before after ⊎ ((status ≡ 0) ⊎ (status ≡ 6)))
+    by_cause (inl rose) = inl rose
+    by_cause (inr rose) = inr (inl rose)
 
     ends : (status ≡ 0) ⊎ (status ≡ 5) → WriteRose old new ⊎ (SinkRose before after ⊎ ((status ≡ 0) ⊎ (status ≡ 6)))
     ends (inl e) = inr (inr (inl e))
-    ends (inr e) = by_cause (cause_of texts old new before after (cut_off_of texts old mid new before after reads_it.call (writes.cut e)))
-      where
-        by_cause : WriteRose old new ⊎ SinkRose before after → WriteRose old new ⊎ (SinkRose before after ⊎ ((status ≡ 0) ⊎ (status ≡ 6)))
-        by_cause (inl rose) = inl rose
-        by_cause (inr rose) = inr (inl rose)
+    ends (inr e) = by_cause (cause_of texts old new before after (writes.cut e))
+
+-- ---- the mesh of a file
+one : (job : MeshJob) → IsOne (mesh_inputs job)
+one job = soup_file-IsOne job.input job.digits job.epsilon job.cells
+
+-- the input does not serve
+pub refused : (job : MeshJob) (old new : FolderState) (before after : SinkState) (issue : InputIssue) → Reads {X = Soup} (mesh_inputs job) old new (Err issue) → Says before after (issue_line issue) → Meshes job old new before after (issue_status issue)
+refused job old new before after issue r says = record {
+  known = known_of (known_status issue);
+  done = λ e. other_status issue 0 (λ k. differ 0 3 (lit< tt) k) (λ k. differ 0 4 (lit< tt) k) (λ k. differ 0 6 (lit< tt) k) e;
+  cut = λ e. other_status issue 5 (λ k. differ 3 5 (lit< tt) (sym k)) (λ k. differ 4 5 (lit< tt) (sym k)) (λ k. differ 5 6 (lit< tt) k) e;
+  inputs = answers_issue (mesh_inputs job) old new before after issue (one job) r says;
+  accepted_there = λ told soup g. accepted (accepted_not (mesh_inputs job) old new issue soup (one job) r told g);
+}
+  where
+    known_of : (issue_status issue ≡ 3) ⊎ ((issue_status issue ≡ 4) ⊎ (issue_status issue ≡ 6)) → (issue_status issue ≡ 0) ⊎ ((issue_status issue ≡ 3) ⊎ ((issue_status issue ≡ 4) ⊎ ((issue_status issue ≡ 5) ⊎ (issue_status issue ≡ 6))))
+    known_of (inl k) = inr (inl k)
+    known_of (inr (inl k)) = inr (inr (inl k))
+    known_of (inr (inr k)) = inr (inr (inr (inr k)))
+
+    accepted : ReadRose old new ⊎ (issue_status issue ≡ 6) → ReadRose old new ⊎ (WriteRose old new ⊎ (SinkRose before after ⊎ ((issue_status issue ≡ 0) ⊎ (issue_status issue ≡ 6))))
+    accepted (inl rose) = inl rose
+    accepted (inr k) = inr (inr (inr (inr k)))
+
+-- the same seen from before the reads
+out_of : (asked : Asked) (names : Names) (first : List OutFile) (soup : Soup) (old mid new : FolderState) (before after : SinkState) → ReadCall old mid → IsOut asked names first soup mid new before after → IsOut asked names first soup old new before after
+out_of asked names first soup old mid new before after call out = record {
+  texts = out.texts;
+  made = out.made;
+  accepted = out.accepted;
+  written = record { files = whole_of out.texts.files old mid new call out.written.files; line = out.written.line };
+}
+
+cut_out_of : (asked : Asked) (names : Names) (first : List OutFile) (soup : Soup) (old mid new : FolderState) (before after : SinkState) → ReadCall old mid → IsCutOut asked names first soup mid new before after → IsCutOut asked names first soup old new before after
+cut_out_of asked names first soup old mid new before after call out = record { texts = out.texts; made = out.made; cut = cut_off_of out.texts old mid new before after call out.cut }
+
+no_memory_of : (old mid new : FolderState) (before after : SinkState) → ReadCall old mid → IsOutOfMemory mid new before after → IsOutOfMemory old new before after
+no_memory_of old mid new before after call none = record {
+  printed = none.printed;
+  nothing = record {
+    files = none.nothing.files ∙ call.files;
+    writing = record { created = none.nothing.writing.created ∙ call.writing.created; writing = none.nothing.writing.writing ∙ call.writing.writing };
+  };
+}
+
+is_done : (job : MeshJob) → IsMeshJob job → (old new : FolderState) (before after : SinkState) (soup : Soup) → (old.told ≡ true → mesh_inputs job old.files (Gives soup)) → IsOut (asked_of job) (names_of job) [] soup old new before after → IsDone job old new before after
+is_done job is old new before after soup gives out = record {
+  soup = soup;
+  accepted = gives;
+  out = out;
+  checked = λ told short. found_good_beside (asked_of job) (names_of job) soup out.texts out.made job.input old.files new.files out.accepted (out.written.files told) is.names.different (gives told) short;
+}
+
+pub meshed : (job : MeshJob) → IsMeshJob job → (old mid new : FolderState) (before after : SinkState) (soup : Soup) (status : ℕ) → Reads (mesh_inputs job) old mid (Ok soup) → Finishes (asked_of job) (names_of job) [] soup mid new before after status → Meshes job old new before after status
+meshed job is old mid new before after soup status r ends = record {
+  known = known_of ends.known;
+  done = λ e. is_done job is old new before after soup r.gives (out_of (asked_of job) (names_of job) [] soup old mid new before after r.call (ends.done e));
+  cut = λ e. record { soup = soup; accepted = r.gives; out = cut_out_of (asked_of job) (names_of job) [] soup old mid new before after r.call (ends.cut e) };
+  inputs = record {
+    refused = λ e. not_this 3 (λ k. differ 0 3 (lit< tt) k) (λ k. differ 3 5 (lit< tt) (sym k)) (λ k. differ 3 6 (lit< tt) (sym k)) ends.known e;
+    unread = λ e. not_this 4 (λ k. differ 0 4 (lit< tt) k) (λ k. differ 4 5 (lit< tt) (sym k)) (λ k. differ 4 6 (lit< tt) (sym k)) ends.known e;
+    out_of_memory = λ e. no_memory_of old mid new before after r.call (ends.out_of_memory e);
+    refused_there = λ told line h. absurd ((one job).not_refused old.files soup line (r.gives told) h);
+    missing_there = λ told name h. absurd ((one job).not_missing old.files soup name (r.gives told) h);
+  };
+  accepted_there = λ told other g. inr (all_of ends.all_there);
+}
+  where
+    known_of : (status ≡ 0) ⊎ ((status ≡ 5) ⊎ (status ≡ 6)) → (status ≡ 0) ⊎ ((status ≡ 3) ⊎ ((status ≡ 4) ⊎ ((status ≡ 5) ⊎ (status ≡ 6))))
+    known_of (inl e) = inl e
+    known_of (inr e) = inr (inr (inr e))
+
+    not_this : {X : Type 0} (other : ℕ) → ¬ (0 ≡ other) → ¬ (5 ≡ other) → ¬ (6 ≡ other) → (status ≡ 0) ⊎ ((status ≡ 5) ⊎ (status ≡ 6)) → status ≡ other → X
+    not_this other zero five six (inl k) e = absurd (zero (sym k ∙ e))
+    not_this other zero five six (inr (inl k)) e = absurd (five (sym k ∙ e))
+    not_this other zero five six (inr (inr k)) e = absurd (six (sym k ∙ e))
+
+    all_of : WriteRose mid new ⊎ (SinkRose before after ⊎ ((status ≡ 0) ⊎ (status ≡ 6))) → WriteRose old new ⊎ (SinkRose before after ⊎ ((status ≡ 0) ⊎ (status ≡ 6)))
+    all_of (inl rose) = inl (write_rose_of old mid new r.call rose)
+    all_of (inr other) = inr other
+
+-- ---- the mesh of a height field
+pub no_demo : (job : DemoJob) (old : FolderState) (before after : SinkState) → Says before after memory_line → Demos job old old before after 6
+no_demo job old before after says = record {
+  finishes = no_texts demo_asked (demo_names job) (demo_files job) (demo_soup job) old before after says;
+  checked = λ e. differ 0 6 (lit< tt) (sym e);
+}
+
+found_of : (job : DemoJob) → IsDemoJob job → (old new : FolderState) (before after : SinkState) → IsOut demo_asked (demo_names job) (demo_files job) (demo_soup job) old new before after → old.told ≡ true → AreShort (demo_check job) new.files → IsFoundGood (demo_check job) new.files
+found_of job is old new before after out told short =
+    let whole = out.written.files told in
+    let off = first_there demo_asked (demo_names job) _ (demo_soup job) out.texts out.made old.files new.files whole in
+    found_good demo_asked (demo_names job) (demo_files job) (demo_soup job) out.texts out.made job.off old.files new.files out.accepted whole
+    (field_gives job.k job.seed job.off new.files is.k_most off (All-head (IsShort new.files) job.off (job.mesh ∷ job.report ∷ []) short _ off)) short
+
+pub demoed : (job : DemoJob) → IsDemoJob job → (old new : FolderState) (before after : SinkState) (status : ℕ) → Finishes demo_asked (demo_names job) (demo_files job) (demo_soup job) old new before after status → Demos job old new before after status
+demoed job is old new before after status ends = record { finishes = ends; checked = λ e told short. found_of job is old new before after (ends.done e) told short }
+
+-- ---- limits
+-- the numbers of a job are within their limits
+pub asked-limits : (job : MeshJob) → IsMeshJob job → IsAsked (asked_of job)
+asked-limits job is = record { epsilon_least = is.epsilon_least; epsilon_most = is.epsilon_most; cells = is.cells; budget = is.budget; digits = is.digits }
+
+pub demo-limits : IsAsked demo_asked
+demo-limits = record { epsilon_least = lit≤ tt; epsilon_most = lit≤ tt; cells = record { power = 2; power_most = lit≤ tt; is = refl }; budget = lit≤ tt; digits = tt }

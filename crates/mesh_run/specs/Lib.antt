@@ -1,8 +1,2 @@
-pub mod Words
-pub mod Summary
-pub mod Printed
-pub mod Input
-pub mod Issues
-pub mod Written
-pub mod Made
+pub mod Meshing
 pub mod Run

@@ -1,55 +1,27 @@
-// The program: its words, its input, its texts and its writes in turn.
+// The program: its words, and the command that they name.
 ghost use Rattle.std.specs.Prelude.{map};
-ghost use Rattle.tet_words.specs.Facts.{IsMeshJob};
-ghost use Rattle.mesh_run.specs.Run.{Answers, Works};
+ghost use Rattle.mesh_run.specs.Run.{Answers};
 
-use crate::input::{refuse_input, refuse_read, soup_of};
-use crate::made::make;
-use crate::say::{say, say_three};
-use crate::status;
-use crate::words::mesh_job;
-use crate::written::write_texts;
-use grid::Memory;
-use mesh_io::{Folder, Sink, read_all};
+use crate::meshing::{demo, mesh};
+use checking::check;
+use mesh_io::{Folder, Sink};
+use printing::{say, say_three, status};
 use std::alloc::Global;
-use tet_words::{MeshJob, WordsIssue};
-
-// The most bytes of a file that is read.
-const MOST_BYTES: usize = 1 << 30;
-
-fn work<F: Folder, O: Sink>(alloc: Global, job: &MeshJob, folder: &mut F, out: &mut O) -> u8
-    requires { IsMeshJob job.now }
-    ensures { Works job.now (F.state folder.old) (F.state folder.new) (O.state out.old) (O.state out.new) result }
-{
-    let bytes = match read_all(alloc, folder, job.input.as_str(), MOST_BYTES) {
-        Ok(bytes) => bytes,
-        Err(issue) => return refuse_read(job.input.as_str(), issue, out),
-    };
-    let soup = match soup_of(alloc, job, &bytes) {
-        Ok(soup) => soup,
-        Err(issue) => return refuse_input(issue, out),
-    };
-    drop(bytes);
-    match make(alloc, job, &soup) {
-        Ok(texts) => write_texts(&texts, folder, out),
-        Err(Memory) => {
-            say(out, b"tetsoup: out of memory\n");
-            status::MEMORY
-        }
-    }
-}
+use tet_words::{Job, WordsIssue, parse};
 
 /// Does what the words ask for, over the files of a folder and an output, and answers the status.
 ///
-/// The words are those of the command line without the program's name. Statuses: 0 done, 2 the words
-/// are refused, 3 the input is refused, 4 the input could not be read or is not there, 5 a write
-/// failed, 6 memory ran out. One line is printed, which says what was done or why not. Nothing is
+/// The words are those of the command line without the program's name. Statuses: 0 done, 1 a check found a
+/// fault, 2 the words are refused, 3 an input is refused, 4 an input could not be read or is not there, 5 a
+/// write failed, 6 memory ran out. One line is printed, which says what was done or why not. Nothing is
 /// created before all texts are ready in memory.
 pub fn run<F: Folder, O: Sink>(alloc: Global, words: &[&str], folder: &mut F, out: &mut O) -> u8
     ensures { Answers (map (λ w. w.now) words.now) (F.state folder.old) (F.state folder.new) (O.state out.old) (O.state out.new) result }
 {
-    match mesh_job(alloc, words) {
-        Ok(job) => work(alloc, &job, folder, out),
+    match parse(alloc, words) {
+        Ok(Job::Mesh(job)) => mesh(alloc, job, folder, out),
+        Ok(Job::Check(job)) => check(alloc, &job, folder, out),
+        Ok(Job::Demo(job)) => demo(alloc, job, folder, out),
         Err(WordsIssue::Refused(fault)) => {
             say_three(out, b"tetsoup: words: ", fault.text().as_bytes(), b"\n");
             status::WORDS

@@ -170,19 +170,23 @@ fn output_fails(rt: HostRuntime) -> Result<(), Fail> {
     Ok(())
 }
 
-const REFUSED_WORDS: [(&[&str], &[u8]); 7] = [
+const REFUSED_WORDS: [(&[&str], &[u8]); 8] = [
     (&[], b"tetsoup: words: no command\n"),
     (
-        &["check", "IN.off", "OUT.msh", "REPORT"],
+        &["replay", "IN.off", "OUT.msh", "REPORT"],
         b"tetsoup: words: unknown command\n",
+    ),
+    (
+        &["demo", "0", "1", "a.off", "b.msh", "r"],
+        b"tetsoup: words: K must be 1 to 64\n",
     ),
     (
         &["mesh", "IN.off", "OUT.msh"],
         b"tetsoup: words: bad words\n",
     ),
     (
-        &["mesh", "IN.off", "OUT.msh", "REPORT", "--digits", "2"],
-        b"tetsoup: words: bad words\n",
+        &["mesh", "IN.off", "OUT.msh", "REPORT", "--digits", "6"],
+        b"tetsoup: words: digits must be 0 to 5\n",
     ),
     (
         &["mesh", "IN.off", "OUT.msh", "REPORT", "--epsilon=0"],
@@ -325,4 +329,6 @@ fn eight_cubes(rt: HostRuntime) -> Result<(), Fail> {
     Ok(())
 }
 
+mod checks;
+mod demos;
 mod surfaces;

@@ -108,7 +108,7 @@ search_for n points x (y ∷ ts) h = elim (cases_Bool (same_corners x y)) [
     by e (nowhere f) = nowhere (rw e (omega (arith, linear, f)))
     by e (found z s f) = found z s f
 
-twins-none : (n : ℕ) (points : List Point) (ts : List (List ℕ)) → Each (Sound n points) ts → ((a b c : ℕ) → count (a ∷ b ∷ c ∷ []) ts ≤ 1) → (x : List ℕ) → count_by (λ y. same_corners x y) ts ≤ 1
+pub twins-none : (n : ℕ) (points : List Point) (ts : List (List ℕ)) → Each (Sound n points) ts → ((a b c : ℕ) → count (a ∷ b ∷ c ∷ []) ts ≤ 1) → (x : List ℕ) → count_by (λ y. same_corners x y) ts ≤ 1
 twins-none n points ts h once x = by (search_for n points x ts h)
   where
     at_most : (m n : ℕ) (b t : ℤ) → pos m ≡ b → b ≤ℤ t → pos n ≡ t → n ≤ 1 → m ≤ 1

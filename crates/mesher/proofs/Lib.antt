@@ -1,5 +1,5 @@
-mod Turning
 mod Certified
+mod Keeping
 pub mod Beginning
 mod Ending
 pub mod OneMesh

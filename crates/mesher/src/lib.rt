@@ -1,10 +1,12 @@
 //! The mesh of a placed soup: the background lattice, every triangle of the soup in turn, tries within a
-//! budget, and the certificates of the tracked faces. `specs/` says what that mesh and what is told of it are.
+//! budget, the same once more for what was rolled back, and the certificates of the tracked faces. `specs/`
+//! says what that mesh and what is told of it are.
 #![tactic(auto)]
 
 mod coverings;
 mod laws;
 mod meshed;
+mod parts;
 mod turns;
 
 pub use laws::one_mesh_law;

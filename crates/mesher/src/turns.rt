@@ -1,6 +1,6 @@
 // Triangles inserted in turn.
 ghost use Rattle.grid.specs.Determinants.{IsPositive};
-ghost use Rattle.mesher.specs.InTurn.{AreSomeTurns, AreTurns};
+ghost use Rattle.insertion.specs.InTurn.{AreSomeTurns, AreTurns};
 ghost use Rattle.mesh_store.specs.Parts.{live_tets, mesh_in};
 ghost use Rattle.std.specs.List.{range_with_len};
 ghost use Rattle.std.specs.Prelude.{All, IfOk, None, OnErr, length, ◌≡◌, ◌≤◌};
@@ -13,7 +13,7 @@ use mesh_types::Outcome;
 use std::alloc::Global;
 
 /// Inserts all triangles of the envelope in turn, and answers what became of each. One that is rolled
-/// back leaves the mesh as it was. After want of memory the mesh is the one after the first of them.
+/// back leaves the mesh as it was. After want of memory the mesh is the one after a front of them.
 pub(crate) fn insert_all(
     alloc: Global,
     store: &mut Store,

@@ -2,7 +2,7 @@
 use super::ran;
 use std::test::Fail;
 
-const CUBE: &[u8] =
+pub const CUBE: &[u8] =
     b"OFF\n8 6 0\n0 0 0\n8 0 0\n0 8 0\n8 8 0\n0 0 8\n8 0 8\n0 8 8\n8 8 8\n4 0 1 3 2\n4 4 5 7 6\n4 0 2 6 4\n4 1 3 7 5\n4 0 1 5 4\n4 2 3 7 6\n";
 
 const DRESSED_CUBE: &[u8] =
@@ -43,7 +43,7 @@ const CASES: [Case; 7] = [
         input: b"OFF\n8 7 0\n0 0 0\n8 0 0\n0 8 0\n8 8 0\n0 0 8\n8 0 8\n0 8 8\n8 8 8\n4 0 1 3 2\n4 4 5 7 6\n4 0 2 6 4\n4 1 3 7 5\n4 0 1 5 4\n4 2 3 7 6\n3 0 0 1\n",
         epsilon: "2",
         line: b"points 125 tets 384 tracked 48 kept 48 inserted 12 rolled-back 1 tries 0 end stopped\n",
-        told: b"\nt 12 rolled-back degenerate\n",
+        told: b"\nt 12 rolled-back degenerate\ntries 0\nend stopped\nsecond 1\nt 12 rolled-back degenerate\ntries 0\nend stopped\ntracked 48\n",
     },
     // A triangle midway between two planes of the lattice.
     Case {
@@ -64,12 +64,12 @@ const CASES: [Case; 7] = [
         input: b"OFF\n4 1 0\n0 0 0\n8 0 0\n8 8 0\n0 -2 6\n3 0 1 2\n",
         epsilon: "1",
         line: b"points 125 tets 384 tracked 0 kept 0 inserted 0 rolled-back 1 tries 0 end stopped\n",
-        told: b"\nbox 16\nshift -4 -5 -5\ntriangles 1\nt 0 rolled-back stray 0 -1 -1 4 -1 -1 4 3 -1\ntries 0\nend stopped\ntracked 0\n",
+        told: b"\nbox 16\nshift -4 -5 -5\ntriangles 1\nt 0 rolled-back stray 0 -1 -1 4 -1 -1 4 3 -1\ntries 0\nend stopped\nsecond 1\nt 0 rolled-back stray 0 -1 -1 4 -1 -1 4 3 -1\ntries 0\nend stopped\ntracked 0\n",
     },
 ];
 
 /// Whether the text has these bytes somewhere.
-fn contains(text: &[u8], part: &[u8]) -> bool {
+pub fn contains(text: &[u8], part: &[u8]) -> bool {
     for i in 0..text.len() {
         if text[i..].starts_with(part) {
             return true;

@@ -1,7 +1,7 @@
 use Rattle.std.proofs.Common.{◌≡◌, ◌≤◌, None, length}
 use Rattle.std.specs.List.{range_with_len}
 use Rattle.mesh_store.specs.Parts.{mesh_in}
-use Rattle.mesher.specs.InTurn.{AreTurns}
+use Rattle.insertion.specs.InTurn.{AreTurns}
 use Rattle.mesher.proofs.turns.insert_all.Given as goal
 
 abbrev pub invariant-loop-t : goal.invariant-loop-t

@@ -1,0 +1,3 @@
+pub mod OffBox
+pub mod Accepted
+pub mod InFolder

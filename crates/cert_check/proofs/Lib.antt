@@ -1,0 +1,17 @@
+pub mod Places
+pub mod Volumes
+pub mod Keys
+pub mod Nodes
+pub mod Headers
+pub mod RolledBack
+pub mod MeshRules
+pub mod ReportRules
+pub mod Facts
+pub mod Numbers
+pub mod Turned
+pub mod Passing
+pub mod Renumbered
+pub mod Accepted
+pub mod Steps
+pub mod Soundness
+pub mod OneFinding

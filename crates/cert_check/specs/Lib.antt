@@ -1,0 +1,9 @@
+pub mod Firsts
+pub mod FileMesh
+pub mod Faults
+pub mod Conditions
+pub mod Sound
+pub mod Laws
+pub mod Written
+pub mod Searches
+pub mod Passed

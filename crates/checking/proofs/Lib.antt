@@ -1,0 +1,3 @@
+pub mod Judging
+mod Numbers
+mod Reading

@@ -1,0 +1,5 @@
+pub mod Chains
+pub mod Soups
+pub mod Ones
+pub mod Answering
+pub mod Inputs

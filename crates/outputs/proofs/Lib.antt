@@ -1,0 +1,3 @@
+mod Writing
+pub mod Making
+mod OneOutput
