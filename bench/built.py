@@ -25,8 +25,14 @@ def crate_lines(names):
     return wanted
 
 
-def build(folder, name, deps, files):
-    """Builds the program `name` from {path in its crate: text}, and gives its path."""
+def with_value(source, name, value):
+    """The source with another value of a constant."""
+    before, _, after = source.partition(f"const {name}: u32 = ")
+    return f"{before}const {name}: u32 = {value};{after.partition(';')[2]}"
+
+
+def lay_out(folder, name, deps, files):
+    """Writes the program `name` from {path in its crate: text} beside what it stands on. Gives its folder."""
     wanted = crate_lines(deps)
     for crate in wanted:
         ignored = shutil.ignore_patterns("out", "must-fail")
@@ -39,8 +45,25 @@ def build(folder, name, deps, files):
         (home / path).write_text(text)
     if not (folder / ".git").exists():
         subprocess.run(["git", "init", "-q", folder], check=True)
-    built = subprocess.run(["rt", "run"], cwd=home, capture_output=True, text=True, check=False)
+    return home
+
+
+def build(folder, name, deps, files):
+    """Builds the program `name` from {path in its crate: text}, and gives its path."""
+    home = lay_out(folder, name, deps, files)
+    empty = subprocess.DEVNULL
+    built = subprocess.run(["rt", "run"], cwd=home, stdin=empty, capture_output=True, text=True, check=False)
     program = home / "out" / name
     if not program.exists():
         sys.exit(built.stdout + built.stderr)
     return program
+
+
+def tried(folder, name, deps, files):
+    """Runs the program `name` without a proof, and gives what it printed."""
+    home = lay_out(folder, name, deps, files)
+    words = ["rt", "try", "--seconds", "1200", "--steps", str(10**13)]
+    done = subprocess.run(words, cwd=home, capture_output=True, text=True, check=False)
+    if done.returncode != 0:
+        sys.exit(done.stdout + done.stderr)
+    return done.stdout

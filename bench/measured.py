@@ -1,4 +1,4 @@
-"""Commands timed by the clock, with the memory that they took at most, and the page of their figures."""
+"""Commands with the processor's time and the memory that they took, and the page of their figures."""
 
 import datetime
 import os
@@ -8,7 +8,6 @@ import shutil
 import subprocess
 import sys
 import tempfile
-import time
 from dataclasses import dataclass
 from pathlib import Path
 
@@ -17,7 +16,8 @@ PAGE = TOP / "docs" / "PERFORMANCE.md"
 HEAD = """# Performance
 
 What the scripts of `bench/` measured last. Each writes its own section anew, with the day and the machine.
-They stand outside the gate: no proof speaks of time or memory. The fastest of three runs counts.
+They stand outside the gate: no proof speaks of time or memory. Seconds are the processor's, in the program
+and in the system for it. The fastest of three runs counts, or the one run where it takes long.
 """
 
 
@@ -43,20 +43,19 @@ def program():
 def run(words, folder, output=subprocess.PIPE):
     """Runs a command once.
 
-    GNU time starts it and tells its peak memory: started from here, a command would be counted the memory
-    of this script as well.
+    GNU time starts it and tells its time and its peak memory: started from here, a command would be counted
+    the memory of this script as well.
     """
     timer = shutil.which("time") or sys.exit("GNU time is needed: apt-get install time")
     with tempfile.TemporaryDirectory() as room:
         figures = os.path.join(room, "figures")
-        start = time.perf_counter()
         child = subprocess.run(
-            [timer, "--quiet", "-o", figures, "-f", "%M", *words],
+            [timer, "--quiet", "-o", figures, "-f", "%U %S %M", *words],
             cwd=folder, stdout=output, stderr=subprocess.DEVNULL, check=False,
         )
-        seconds = time.perf_counter() - start
-        kilobytes = int(Path(figures).read_text().split()[-1])
-    return Run(child.returncode, (child.stdout or b"").decode(errors="replace"), seconds, kilobytes / 1024)
+        user, system, kilobytes = Path(figures).read_text().split()[-3:]
+    printed = (child.stdout or b"").decode(errors="replace")
+    return Run(child.returncode, printed, float(user) + float(system), int(kilobytes) / 1024)
 
 
 def best(words, folder, times=3, output=subprocess.PIPE):

@@ -10,12 +10,15 @@ import sys
 import tempfile
 from pathlib import Path
 
-from built import build
+from built import build, with_value
 from measured import TOP, best, table, write_section
 
 CELLS = {4: 2, 8: 3, 16: 4, 32: 5}  # the power of two that each is
 TIMES = 500000
-ABOUT = "The store over a lattice: a turn (begin, refine by one edge, roll back), and a search for the tetrahedra at a point."
+ABOUT = (
+    "The store over a lattice: a turn (begin, refine by one edge, roll back), and a search for the "
+    "tetrahedra at a point."
+)
 CRATES = ["mesh_store", "tet_slots", "background", "mesh_types", "grid"]
 
 
@@ -23,8 +26,7 @@ def program(folder, cells, power, turns, searches):
     here = TOP / "bench" / "store"
     source = (here / "main.rt.txt").read_text()
     for name, value in (("CELLS", cells), ("TURNS", turns), ("SEARCHES", searches)):
-        before, _, after = source.partition(f"const {name}: u32 = ")
-        source = f"{before}const {name}: u32 = {value};{after.partition(';')[2]}"
+        source = with_value(source, name, value)
     answers = (here / "all_turns_answers.antt.txt").read_text().replace("power = 2;", f"power = {power};", 1)
     files = {
         "src/main.rt": source,
@@ -50,7 +52,8 @@ def main():
             turned = seconds(Path(name), cells, power, TIMES, 0) - nothing
             found = seconds(Path(name), cells, power, 0, TIMES) - nothing
             lines.append([f"{6 * cells**3}", f"{turned / TIMES * 1e6:.2f}", f"{found / TIMES * 1e6:.2f}"])
-    write_section("store.py", ABOUT, table(["tetrahedra", "microseconds a turn", "microseconds a search"], lines))
+    head = ["tetrahedra", "microseconds a turn", "microseconds a search"]
+    write_section("store.py", ABOUT, table(head, lines))
 
 
 if __name__ == "__main__":

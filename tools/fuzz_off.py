@@ -29,7 +29,7 @@ DONE = re.compile(
 REFUSED = re.compile(r"tetsoup: input: (byte \d+: [A-Za-z ]+|extent \d+ is too wide)\n")
 PIECES = [
     b"OFF", b"COFF", b"BINARY", b"#", b"\n", b"\r\n", b"\r", b"\t", b" ", b"\0", b"\xff", b"-", b"+", b".",
-    b"e9", b"1e", b"8.000", b"0.5", b"-0", b"1000000000", b"1000000001", b"-1000000000", b"9" * 40,
+    b"e9", b"1e", b"8.000", b"0.5", b"-0", b"1e400", b"1000000000", b"1000000001", b"-1000000000", b"9" * 40,
     b"1048576", b"1048577", b"4294967296", b"3 0 1 2\n", b"3", b"2", b"0", b"262136", b"\xef\xbb\xbf",
 ]
 
@@ -56,13 +56,14 @@ def limit():
     resource.setrlimit(resource.RLIMIT_AS, (MEMORY, MEMORY))
 
 
-def fault(mesh, folder, text):
-    """What is wrong with the program's answer to a text, or nothing."""
+def fault(mesh, folder, text, digits):
+    """What is wrong with the program's answer to a text and to these words on digits, or nothing."""
     Path(folder, "in.off").write_bytes(text)
     seconds = 5 + len(text) / 1e6
     try:
         done = subprocess.run(
-            [mesh, *WORDS], cwd=folder, capture_output=True, timeout=seconds, preexec_fn=limit, check=False
+            [mesh, *WORDS, *digits], cwd=folder, capture_output=True, timeout=seconds, preexec_fn=limit,
+            check=False,
         )
     except subprocess.TimeoutExpired:
         return "no answer in time"
@@ -82,10 +83,11 @@ def main():
     with tempfile.TemporaryDirectory() as folder:
         for run in range(runs):
             text = mutated(seeds, numbers)
-            wrong = fault(mesh, folder, text)
+            digits = numbers.choice(([], [f"--digits={numbers.randrange(6)}"]))
+            wrong = fault(mesh, folder, text, digits)
             if wrong:
                 Path("fuzz_failed.off").write_bytes(text)
-                sys.exit(f"run {run}: {wrong}")
+                sys.exit(f"run {run} {' '.join(digits)}: {wrong}")
             key = Path(folder, "out.msh").exists()
             statuses[key] = statuses.get(key, 0) + 1
             Path(folder, "out.msh").unlink(missing_ok=True)

@@ -4,13 +4,16 @@
 Usage: off_info.py IN
 
 Digits is the number of decimals that can be kept: with 10^digits steps of the grid to an input unit the
-surface just fits into the largest box. Epsilon is a thousandth of the diagonal, in steps of the grid, and
-the edges of the background mesh are about a twentieth of the diagonal.
+surface just fits into the largest box. From 0 to 5 they are given to the mesher as `--digits`, and only a
+file that is not OFF is turned into OFF before; beyond, the surface is scaled by `to_off.py`. Epsilon is a
+thousandth of the diagonal, in steps of the grid, and the edges of the background mesh are about a twentieth
+of the diagonal.
 """
 
 import math
 import sys
 from decimal import Decimal
+from pathlib import Path
 
 from surfaces import plain, read
 
@@ -18,6 +21,7 @@ LARGEST_SIDE = 1 << 18
 LEAST_SIDE = 16
 LARGEST_COORDINATE = 10**9
 LARGEST_EPSILON = 4095
+MOST_DIGITS = 5
 CELLS = (1, 2, 4, 8, 16, 32)
 
 
@@ -50,6 +54,14 @@ def digits_for(extent, diagonal, largest):
     sys.exit("no scale fits")
 
 
+def ways(path, digits, kept):
+    """What is to be done before, if anything, and the words on digits."""
+    if not 0 <= digits <= MOST_DIGITS:
+        return f"tools/to_off.py {path} scaled.off --scale {plain(Decimal(10) ** digits)}", ""
+    before = "" if Path(path).suffix.lower() == ".off" else f"tools/to_off.py {path} {Path(path).stem}.off"
+    return before, f" --digits {digits}" if digits or kept else ""
+
+
 def main():
     if len(sys.argv) != 2:
         sys.exit("usage: off_info.py IN")
@@ -73,9 +85,10 @@ def main():
     print(f"digits {digits}: a step of the grid is {plain(1 / scale)}, the box has {side} steps a side")
     print(f"epsilon {epsilon} steps, which are {epsilon / float(scale):.6g}")
     print(f"cells {cells}, whose edges are {side / cells / float(scale):.6g}")
-    if digits or kept:
-        print(f"first: tools/to_off.py {sys.argv[1]} scaled.off --scale {plain(scale)}")
-    print(f"words: --cells {cells} --epsilon {epsilon}")
+    before, words = ways(sys.argv[1], digits, kept)
+    if before:
+        print(f"first: {before}")
+    print(f"words: --cells {cells} --epsilon {epsilon}{words}")
 
 
 if __name__ == "__main__":

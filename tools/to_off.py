@@ -3,10 +3,10 @@
 
 Usage: to_off.py IN OUT.off [--scale S]
 
-With --scale each coordinate is multiplied by S and rounded to a whole number, as the mesher wants it: one
-unit of the result is one step of its grid. `off_info.py OUT.off` says which S fits. Without it the
-coordinates are written as they are. Vertices that become equal become one, and faces with fewer than three
-different corners are left out; the script says how many.
+Without --scale the coordinates are written as they are, and the mesher reads decimals with `--digits`. With
+it each coordinate is multiplied by S and rounded to a whole number: one unit of the result is one step of the
+mesher's grid. `off_info.py IN` says whether a scale is needed, and which. Vertices that become equal become
+one, and faces with fewer than three different corners are left out; the script says how many.
 """
 
 import argparse
