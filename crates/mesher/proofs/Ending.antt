@@ -1,5 +1,5 @@
 -- The mesh after both parts, and its tracked faces.
-use Rattle.std.proofs.Common.{◌≡◌, ◌-◌, ℕ, ℤ, nat_abs, List, [], ◌∷◌, length, All, refl, sym, ap, ◌∙◌, subst}
+use Rattle.std.proofs.Common.{◌≡◌, ◌-◌, ℕ, ℤ, nat_abs, List, [], ◌∷◌, length, All, refl, sym, subst}
 use Rattle.std.specs.List.{range_with_len, AllByRecursion as Each}
 use Rattle.std.proofs.lemmas.List.Elements.{All-from_recursion, recursion_from_All}
 use Rattle.grid.specs.declared.shapes.Point.{Point}

@@ -5,12 +5,12 @@ use Rattle.std.specs.List.{AllByRecursion as Each}
 use Rattle.std.proofs.lemmas.List.Elements.{All-from_recursion, recursion_from_All}
 use Rattle.grid.specs.declared.shapes.Point.{Point}
 use Rattle.grid.specs.declared.shapes.Tri.{Tri}
-use Rattle.grid.specs.Meshes.{Mesh, IsTriple, IsWellFormed, Tiles}
+use Rattle.grid.specs.Meshes.{Mesh, IsTriple, IsWellFormed}
 use Rattle.mesh_types.specs.declared.outcome.Again.{Again}
 use Rattle.mesh_types.specs.declared.outcome.Outcome.{Outcome}
 use Rattle.mesh_types.specs.Certificates.{HasCertificate}
 use Rattle.mesh_types.specs.Insertion as insertion_specs
-use Rattle.mesh_types.specs.Journals.{AllCovered, AllPositive, NoFaceTwice, StaysSound, setting}
+use Rattle.mesh_types.specs.Journals.{AllCovered, setting}
 use Rattle.mesh_types.specs.Turns.{AreInserted}
 use Rattle.mesh_types.specs.Verdicts.{Setting, face_at, IsCovered}
 use Rattle.insertion.specs.Bare as bare_specs

@@ -7,6 +7,8 @@ mod coverings;
 mod laws;
 mod meshed;
 mod parts;
+#[cfg(test)]
+mod tests;
 mod turns;
 
 pub use laws::one_mesh_law;
