@@ -1,4 +1,3 @@
-pub mod VectorLemmas
 pub mod MeanLemmas
 pub mod PlaneLemmas
 pub mod SideLemmas

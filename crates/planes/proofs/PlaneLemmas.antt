@@ -5,17 +5,17 @@ use Rattle.std.specs.Int.{int_signum}
 use lib.IntN.{nat_abs, zero-*ℤ}
 use Rattle.grid.specs.declared.shapes.Point.{Point}
 use Rattle.grid.specs.Boxes.{Axis, along_x, along_y, along_z, Side, IsOn, IsInBox}
-use Rattle.grid.specs.Vectors.{dot}
+use Rattle.grid.specs.Vectors.{dot, difference}
 use Rattle.grid.specs.Planes.{Plane, value_of, snap_sign, crossing, rounded_mean}
-use Rattle.planes.specs.declared.vector.Vector.{Vector}
-use Rattle.planes.specs.Bounded.{vector_of, plane_with, IsDifference, sq_reach_of}
+use Rattle.planes.specs.Bounded.{plane_with, sq_reach_of}
 use Rattle.planes.specs.Crossings.{HaveOppositeSigns, mean_of}
-use Rattle.planes.proofs.VectorLemmas.{vector_of-IsDifference}
+use Rattle.vectors.specs.declared.vector.Vector.{Vector}
+use Rattle.vectors.specs.Bounded.{vector_of}
 use Rattle.planes.proofs.MeanLemmas.{rounded_mean-IsUpTo, rounded_mean-same}
 
-pub dot-difference : (m : Plane) (normal d : Vector) (origin p : Point) (snap : ℕ) → plane_with normal origin snap ≡ m → IsDifference p origin d → dot (vector_of normal) (vector_of d) ≡ value_of m p
+pub dot-difference : (m : Plane) (normal d : Vector) (origin p : Point) (snap : ℕ) → plane_with normal origin snap ≡ m → vector_of d ≡ difference p origin → dot (vector_of normal) (vector_of d) ≡ value_of m p
 unfolding value_of
-dot-difference m normal d origin p snap e h = ap (dot (vector_of normal)) (vector_of-IsDifference p origin d h) ∙ ap (λ k. value_of k p) e
+dot-difference m normal d origin p snap e h = ap (dot (vector_of normal)) h ∙ ap (λ k. value_of k p) e
 
 -- what `sign_beyond` answers at the value of a point
 pub sign-snap_sign : (m : Plane) (p : Point) (v r : ℤ) → v ≡ value_of m p → r ≡ sq_reach_of m → (if lt_z r (v *ℤ v) then int_signum v else pos 0) ≡ snap_sign m p

@@ -15,9 +15,7 @@ use Rattle.grid.specs.Vectors.{Vector, no_vector, difference, dot, cross, opposi
 use Rattle.grid.specs.Planes.{largest_axis, unit_of, normal_of, IsDegenerate, side_across, side_plane, value_of}
 use Rattle.grid.specs.Boxes.{along_x, along_y, along_z, corner_of}
 use Rattle.grid.proofs.VectorExpressions.{coordinates_then}
-use Rattle.planes.specs.Bounded.{IsVectorWithin}
 use Rattle.planes.specs.Sides.{turned, side_of}
-use Rattle.planes.proofs.VectorLemmas.{opposite-IsVectorWithin}
 
 -- the product of three vectors changes its sign where two are swapped
 cross-dot : (e a d : Vector) → dot (cross e a) d ≡ neg_ℤ (dot (cross e d) a)
@@ -82,10 +80,6 @@ dot-opposite m d =
 
 abbrev chosen : Bool → Vector → Vector
 chosen b m = if b then m else opposite m
-
-pub chosen-IsVectorWithin : {n : ℕ} (b : Bool) {m : Vector} → IsVectorWithin n m → IsVectorWithin n (chosen b m)
-chosen-IsVectorWithin true h = h
-chosen-IsVectorWithin false h = opposite-IsVectorWithin h
 
 turned-positive : (m d : Vector) → (dot m d ≡ pos 0 → ⊥) → pos 0 <ℤ dot (turned m d) d
 turned-positive m d some = by_test (lt_z (pos 0) (dot m d)) refl

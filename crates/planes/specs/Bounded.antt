@@ -1,28 +1,11 @@
--- Vectors and planes of the code, and the bounds of their numbers, so that all that is computed from them fits.
-use Rattle.std.specs.Prelude.{◌≡◌, ℕ, ◌^◌, ◌≤◌, ℤ, pos, ◌-ℤ◌, ◌*ℤ◌}
-use Rattle.int_algebra.specs.Within.{IsWithin}
+-- Planes of the code, and the bounds of their numbers, so that all that is computed from them fits.
+use Rattle.std.specs.Prelude.{◌≡◌, ℕ, ◌^◌, ◌≤◌, ℤ, pos, ◌*ℤ◌}
 use Rattle.grid.specs.declared.shapes.Point.{Point}
 use Rattle.grid.specs.Boxes.{IsInBox}
-use Rattle.grid.specs.Vectors as vectors
 use Rattle.grid.specs.Vectors.{dot}
 use Rattle.grid.specs.Planes.{Plane}
-use Rattle.planes.specs.declared.vector.Vector.{Vector}
-
--- a vector of the code
-abbrev pub vector_of : Vector → vectors.Vector
-vector_of m = record { x = m.x; y = m.y; z = m.z }
-
--- a - b
-pub record IsDifference (a b : Point) (m : Vector) : Type 0 where
-  pub x : m.x ≡ a.x -ℤ b.x
-  pub y : m.y ≡ a.y -ℤ b.y
-  pub z : m.z ≡ a.z -ℤ b.z
-
--- a vector whose components are from -n to n
-pub record IsVectorWithin (n : ℕ) (m : vectors.Vector) : Type 0 where
-  pub x_in : IsWithin n m.x
-  pub y_in : IsWithin n m.y
-  pub z_in : IsWithin n m.z
+use Rattle.vectors.specs.declared.vector.Vector.{Vector}
+use Rattle.vectors.specs.Bounded.{IsVectorWithin, vector_of}
 
 -- the normal, the origin and the snapping distance that a plane of the code may have
 pub record IsBounded (m : Plane) : Type 0 where

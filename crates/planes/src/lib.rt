@@ -7,7 +7,6 @@ mod plane;
 #[cfg(test)]
 mod tests;
 mod triangle;
-mod vector;
 
 pub use plane::Plane;
 pub use triangle::{plane_of, side_plane};

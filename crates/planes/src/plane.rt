@@ -3,16 +3,16 @@ ghost use Rattle.grid.specs.Planes;
 ghost use Rattle.grid.specs.Planes.{value_of};
 ghost use Rattle.grid.specs.Vectors.{components};
 ghost use Rattle.int_algebra.specs.Within.{IsWithin};
-ghost use Rattle.planes.specs.Bounded.{IsVectorWithin, vector_of};
 ghost use Rattle.planes.specs.Crossings.{HaveOppositeSigns};
 ghost use Rattle.std.specs.Int.Signed.{lt_z};
 ghost use Rattle.std.specs.Int.{int_signum};
 ghost use Rattle.std.specs.Prelude.{if◌then◌else◌, pos, ℕ, ◌*ℤ◌, ◌^◌, ◌≡◌, ◌≤◌};
+ghost use Rattle.vectors.specs.Bounded.{IsVectorWithin, vector_of};
 
 use crate::mean::mean_point;
-use crate::vector::{Vector, difference, dot, squared_length};
 use grid::Point;
 use std::marker::Model;
+use vectors::{Vector, difference, short_dot, squared_length};
 
 /// An oriented plane, and the distance in grid steps up to which points are snapped to it: 1 in the
 /// plane of a triangle and in those of its sides, until `with_snap` gives another.
@@ -90,12 +90,13 @@ impl Plane {
     }
 
     // How far the point lies from the plane, times the length of the normal.
+    #[tactic(auto, using(vectors::proofs::VectorLemmas::wider))]
     fn value(&self, p: Point) -> i64
         requires { IsInBox (2 ^ 18) p }
         ensures value { result ≡ value_of self.now p }
         ensures bound { IsWithin (2 ^ 57) result }
     {
-        dot(self.normal, difference(p, self.origin))
+        short_dot(self.normal, difference(p, self.origin))
     }
 
     /// The side of the plane on which a point lies: 1 where the normal points to it, -1 on the other

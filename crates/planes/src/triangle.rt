@@ -1,9 +1,8 @@
 ghost use Rattle.grid.specs.Boxes.{IsInBox, IsTriInBox, corner_of};
 ghost use Rattle.grid.specs.Planes;
-ghost use Rattle.grid.specs.Planes.{IsDegenerate, value_of};
+ghost use Rattle.grid.specs.Planes.{IsDegenerate, largest_axis, unit_of, value_of};
 ghost use Rattle.grid.specs.Vectors;
 ghost use Rattle.grid.specs.Vectors.{no_vector};
-ghost use Rattle.planes.specs.Bounded.{IsVectorWithin, vector_of};
 ghost use Rattle.planes.specs.Sides.{side_of, turned};
 ghost use Rattle.std.specs.Prelude.{
   IfSome,
@@ -18,10 +17,11 @@ ghost use Rattle.std.specs.Prelude.{
   ◌≡◌,
   ◌↔◌,
 };
+ghost use Rattle.vectors.specs.Bounded.{IsVectorWithin, vector_of};
 
 use crate::plane::Plane;
-use crate::vector::{Vector, cross, difference, dot, longest_axis, opposite};
 use grid::{Point, Tri};
+use vectors::{Vector, cross, difference, dot, opposite};
 
 /// The plane of a triangle, with the snapping distance 1. None exactly where the triangle is
 /// degenerate: its corners lie on one line.
@@ -56,9 +56,11 @@ pub fn side_plane(tri: Tri, i: usize) -> Plane
     }
 }
 
+#[tactic(auto, using(vectors::proofs::VectorLemmas::wider))]
 fn normal_of(tri: Tri) -> Vector
     requires { IsTriInBox (2 ^ 18) tri }
-    ensures { vector_of result ≡ Planes.normal_of tri }
+    ensures value { vector_of result ≡ Planes.normal_of tri }
+    ensures within { IsVectorWithin (2 ^ 37) (vector_of result) }
 {
     let Tri([a, b, c]) = tri;
     cross(difference(b, a), difference(c, a))
@@ -70,7 +72,24 @@ fn is_zero(m: Vector) -> bool
     m.x == 0 && m.y == 0 && m.z == 0
 }
 
+// The unit vector of the axis along which the vector is longest, of the first on ties.
+fn longest_axis(m: Vector) -> Vector
+    ensures { vector_of result ≡ unit_of (largest_axis (vector_of m)) }
+{
+    let x = m.x.unsigned_abs();
+    let y = m.y.unsigned_abs();
+    let z = m.z.unsigned_abs();
+    if y <= x && z <= x {
+        Vector { x: 1, y: 0, z: 0 }
+    } else if z <= y {
+        Vector { x: 0, y: 1, z: 0 }
+    } else {
+        Vector { x: 0, y: 0, z: 1 }
+    }
+}
+
 // The plane through u and v that is parallel to an axis, turned towards w.
+#[tactic(auto, using(vectors::proofs::VectorLemmas::wider))]
 fn side_through(u: Point, v: Point, w: Point, axis: Vector) -> Plane
     requires u_in { IsInBox (2 ^ 18) u }
     requires v_in { IsInBox (2 ^ 18) v }
@@ -83,10 +102,12 @@ fn side_through(u: Point, v: Point, w: Point, axis: Vector) -> Plane
 }
 
 // The vector or its negative, whichever does not point away from d.
+#[tactic(auto, using(vectors::proofs::VectorLemmas::wider))]
 fn turn(m: Vector, d: Vector) -> Vector
     requires m_in { IsVectorWithin (2 ^ 37) (vector_of m) }
     requires d_in { IsVectorWithin (2 ^ 18) (vector_of d) }
-    ensures { vector_of result ≡ turned (vector_of m) (vector_of d) }
+    ensures value { vector_of result ≡ turned (vector_of m) (vector_of d) }
+    ensures within { IsVectorWithin (2 ^ 37) (vector_of result) }
 {
     if dot(m, d) > 0 { m } else { opposite(m) }
 }

@@ -1,5 +1,5 @@
 -- A point whose coordinate is beyond the corners' is not near.
-use Rattle.std.proofs.Common.{ℕ, ◌+◌, ◌*◌, ◌^◌, ◌<◌, [], ◌∷◌, ℤ, pos, ◌+ℤ◌, ◌*ℤ◌, ◌≤ℤ◌, ◌<ℤ◌, refl, inl, inr, arith, subst}
+use Rattle.std.proofs.Common.{ℕ, ◌+◌, ◌*◌, ◌^◌, ◌<◌, [], ◌∷◌, ℤ, pos, ◌+ℤ◌, ◌-ℤ◌, ◌*ℤ◌, ◌≤ℤ◌, ◌<ℤ◌, refl, inl, inr, arith, subst}
 use lib.Signed.{clash_ℤ}
 use Rattle.int_algebra.proofs.Laws.{linear}
 use Rattle.int_algebra.proofs.Ring.{◌⊕◌, ◌⊖◌, ◌⊗◌}
@@ -8,7 +8,8 @@ use Rattle.grid.specs.declared.shapes.Point.{Point}
 use Rattle.grid.specs.Near.{gap_at, sq_gap, IsNearCorners}
 use Rattle.grid.proofs.VectorExpressions.{at_, zero_, one_}
 use Rattle.grid.proofs.Gaps.{square_is}
-use Rattle.tri_distance.specs.Apart.{IsApart}
+use Rattle.vectors.specs.Bounded.{gap_of}
+use Rattle.tri_distance.specs.Apart.{IsApart, AreBeyond, AreFar}
 
 -- by how much the gap is more than the reach: s for the weights' sum, d for the rest
 abbrev room : Certificate
@@ -70,3 +71,20 @@ y_apart p k e a b c apart n = (near_parts p k e a b c n).1 apart
 
 pub z_apart : (p : Point) (k e : ℕ) (a b c : Point) → IsApart p.z (pos (2 ^ k)) (pos (e * 2 ^ k)) a.z b.z c.z → IsNearCorners p k e a b c → ⊥
 z_apart p k e a b c apart n = (near_parts p k e a b c n).2 apart
+
+-- ---- the same by the vectors from the corners
+AreBeyond-IsApart : (p t r a b c : ℤ) → AreBeyond r (p -ℤ t *ℤ a) (p -ℤ t *ℤ b) (p -ℤ t *ℤ c) → IsApart p t r a b c
+AreBeyond-IsApart p t r a b c (inl h) = inr (above a h.0, above b h.1, above c h.2)
+  where
+    above : (z : ℤ) → r <ℤ (p -ℤ t *ℤ z) → (t *ℤ z) <ℤ (p -ℤ r)
+    above z h = omega (arith, linear)
+AreBeyond-IsApart p t r a b c (inr h) = inl (below_all a h.0, below_all b h.1, below_all c h.2)
+  where
+    below_all : (z : ℤ) → (p -ℤ t *ℤ z) <ℤ (pos 0 -ℤ r) → (p +ℤ r) <ℤ (t *ℤ z)
+    below_all z h = omega (arith, linear)
+
+pub far_away : (p : Point) (k e : ℕ) (a b c : Point) → AreFar (gap_of p (pos (2 ^ k)) a) (gap_of p (pos (2 ^ k)) b) (gap_of p (pos (2 ^ k)) c) (pos (e * 2 ^ k)) → IsNearCorners p k e a b c → ⊥
+unfolding gap_of
+far_away p k e a b c (inl h) = x_apart p k e a b c (AreBeyond-IsApart p.x (pos (2 ^ k)) (pos (e * 2 ^ k)) a.x b.x c.x h)
+far_away p k e a b c (inr (inl h)) = y_apart p k e a b c (AreBeyond-IsApart p.y (pos (2 ^ k)) (pos (e * 2 ^ k)) a.y b.y c.y h)
+far_away p k e a b c (inr (inr h)) = z_apart p k e a b c (AreBeyond-IsApart p.z (pos (2 ^ k)) (pos (e * 2 ^ k)) a.z b.z c.z h)

@@ -7,14 +7,13 @@ use Rattle.int_algebra.proofs.Ring.{◌⊗◌, ring}
 use Rattle.int_algebra.proofs.Corners.{Corner, corner, less as less_, cross as cross_}
 use Rattle.grid.specs.declared.shapes.Point.{Point}
 use Rattle.grid.specs.Vectors.{Vector, cross, minus, scaled, difference}
-use Rattle.tri_distance.specs.Vectors.{gap_of, AllWithin}
+use Rattle.vectors.specs.Bounded.{gap_of}
 use Rattle.grid.specs.Near.{IsNearCorners}
-use Rattle.grid.specs.Boxes.{IsInBox}
 use Rattle.tri_distance.specs.Parts.{NearTriangle, IsNormal}
 use Rattle.grid.proofs.VectorExpressions.{scaled_, at_}
 use Rattle.tri_distance.proofs.Segments.{square-Positive}
 use Rattle.tri_distance.proofs.Triangles.{near_triangle, near_corners}
-use Rattle.tri_distance.proofs.Limits.{cross-AllWithin, difference-AllWithin, wider-AllWithin, power_at_most}
+use Rattle.tri_distance.proofs.Limits.{power_at_most}
 
 -- p, a, b and c are the corners 0 to 3, and the scale is the variable 12
 abbrev gap_ : ℕ → Corner
@@ -37,10 +36,6 @@ normal_is p a b c k x y z m e f g h = record {
   positive = square-Positive (pos (2 ^ k)) (power-Positive k);
   same = (λ i. cross (minus (f i) (e i)) (minus (g i) (e i))) ∙ gap_of-normal p a b c (pos (2 ^ k)) ∙ (λ i. scaled (pos (2 ^ k) *ℤ pos (2 ^ k)) (sym h i));
 }
-
-pub normal-AllWithin : (a b c : Point) (m : Vector) → IsInBox (2 ^ 18) a → IsInBox (2 ^ 18) b → IsInBox (2 ^ 18) c → m ≡ cross (difference b a) (difference c a) → AllWithin (2 ^ 37) m
-normal-AllWithin a b c m p q r e =
-    subst (AllWithin (2 ^ 37)) (sym e) (wider-AllWithin (2 ^ 37) _ (cross-AllWithin (2 ^ 18) (2 ^ 18) (difference b a) (difference c a) (difference-AllWithin (2 ^ 18) a b p q) (difference-AllWithin (2 ^ 18) a c p r)) (lit≤ tt))
 
 pub reach-IsWithin : (k e : ℕ) → k ≤ 6 → e ≤ 4095 → IsWithin (2 ^ 36) (pos (e * 2 ^ k * (e * 2 ^ k)))
 reach-IsWithin k e le l =

@@ -6,7 +6,7 @@ use Rattle.int_algebra.proofs.Ring.{◌⊕◌, ◌⊖◌, ◌⊗◌, ring}
 use Rattle.int_algebra.proofs.Orders.{natural-NonNegative}
 use Rattle.grid.specs.declared.shapes.Point.{Point}
 use Rattle.grid.specs.Vectors.{Vector, dot, cross, minus, sum_of_two, sum_of_three, scaled}
-use Rattle.tri_distance.specs.Vectors.{gap_of}
+use Rattle.vectors.specs.Bounded.{gap_of}
 use Rattle.grid.specs.Near.{IsNearCorners}
 use Rattle.tri_distance.specs.Parts.{NearSegment, NearTriangle, NearPlane}
 use Rattle.grid.proofs.Gaps.{weighted_gap, sq_gap-weighted_gap, gap_of_near, squares_are}

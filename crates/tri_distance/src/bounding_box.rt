@@ -1,10 +1,9 @@
-ghost use Rattle.std.specs.Prelude.{◌≤◌, ◌↔◌, ◌+◌, ◌*◌, ◌^◌, IsTrue, pos, ◌<ℤ◌};
-ghost use Rattle.grid.specs.Boxes.{IsUpTo, IsInBox, AreInBox};
-ghost use Rattle.grid.specs.Near.{IsNearCorners};
-ghost use Rattle.tri_distance.specs.Apart.{IsApart};
+ghost use Rattle.int_algebra.specs.Within.{IsWithin};
+ghost use Rattle.std.specs.Prelude.{IsTrue, pos, ◌-ℤ◌, ◌<ℤ◌, ◌^◌, ◌↔◌};
+ghost use Rattle.tri_distance.specs.Apart.{AreBeyond, AreFar};
+ghost use Rattle.vectors.specs.Bounded.{vector_of};
 
-use crate::vector::scale_of;
-use grid::Point;
+use vectors::Vector;
 
 fn is_below(n: i64, a: i64, b: i64, c: i64) -> bool
     ensures { IsTrue result ↔ ((n <ℤ a) × (n <ℤ b) × (n <ℤ c)) }
@@ -30,41 +29,28 @@ fn is_above(n: i64, a: i64, b: i64, c: i64) -> bool
     n > c
 }
 
-/// Whether the coordinate p / 2^k lies beyond a, b and c, to one side, by more than e.
-fn is_apart(p: i32, k: u32, a: i32, b: i32, c: i32, e: u32) -> bool
-    requires k_in { k ≤ 6 }
-    requires p_in { IsUpTo (2 ^ (18 + k)) p }
-    requires a_in { IsUpTo (2 ^ 18) a }
-    requires b_in { IsUpTo (2 ^ 18) b }
-    requires c_in { IsUpTo (2 ^ 18) c }
-    requires e_in { e ≤ 4095 }
-    ensures { IsTrue result → IsApart p (pos (2 ^ k)) (pos (e * 2 ^ k)) a b c }
+/// Whether x, y and z lie beyond 0, all to one side, by more than far.
+fn are_beyond(x: i64, y: i64, z: i64, far: i64) -> bool
+    requires far_in { IsWithin (2 ^ 18) far }
+    ensures { IsTrue result → AreBeyond far x y z }
 {
-    let scale = scale_of(k);
-    let reach = e as i64 * scale;
-    let first = scale * a as i64;
-    let second = scale * b as i64;
-    let third = scale * c as i64;
-    if is_below(p as i64 + reach, first, second, third) {
+    if is_below(far, x, y, z) {
         return true;
     }
-    is_above(p as i64 - reach, first, second, third)
+    is_above(-far, x, y, z)
 }
 
-/// Whether p / 2^k lies outside the box round a, b and c, widened by e on every side. This is seen
-/// quickly, and such a point is not near.
-pub fn is_outside(p: Point, k: u32, a: Point, b: Point, c: Point, e: u32) -> bool
-    requires k_in { k ≤ 6 }
-    requires p_in { IsInBox (2 ^ (18 + k)) p }
-    requires corners_in { AreInBox (2 ^ 18) a b c }
-    requires e_in { e ≤ 4095 }
-    ensures { IsTrue result → ¬ IsNearCorners p k e a b c }
+/// Whether the origin lies outside the box round x, y and z, widened by far on every side. This is
+/// seen quickly, and such a triangle is not near.
+pub fn is_outside(x: Vector, y: Vector, z: Vector, far: i64) -> bool
+    requires far_in { IsWithin (2 ^ 18) far }
+    ensures { IsTrue result → AreFar (vector_of x) (vector_of y) (vector_of z) far }
 {
-    if is_apart(p.x, k, a.x, b.x, c.x, e) {
+    if are_beyond(x.x, y.x, z.x, far) {
         return true;
     }
-    if is_apart(p.y, k, a.y, b.y, c.y, e) {
+    if are_beyond(x.y, y.y, z.y, far) {
         return true;
     }
-    is_apart(p.z, k, a.z, b.z, c.z, e)
+    are_beyond(x.z, y.z, z.z, far)
 }

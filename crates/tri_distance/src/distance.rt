@@ -4,9 +4,19 @@ ghost use Rattle.grid.specs.Boxes.{IsInBox, AreInBox, IsTriInBox};
 ghost use Rattle.grid.specs.Near.{Near, IsNearCorners};
 
 use crate::bounding_box::is_outside;
+use crate::gaps::{gap, normal, scale_of};
 use crate::triangle::near_vectors;
-use crate::vector::{gap, normal, scale_of};
 use grid::{Point, Tri};
+
+/// The distance e at the scale of k.
+fn far_of(e: u32, k: u32) -> i64
+    requires e_in { e ≤ 4095 }
+    requires k_in { k ≤ 6 }
+    ensures value { result ≡ pos (e * 2 ^ k) }
+    ensures within { IsWithin (2 ^ 18) result }
+{
+    e as i64 * scale_of(k)
+}
 
 /// The square of the distance e at the scale of k.
 fn reach_of(e: u32, k: u32) -> i128
@@ -15,10 +25,11 @@ fn reach_of(e: u32, k: u32) -> i128
     ensures value { result ≡ pos (e * 2 ^ k * (e * 2 ^ k)) }
     ensures within { IsWithin (2 ^ 36) result }
 {
-    let far = e as i128 * scale_of(k) as i128;
+    let far = far_of(e, k) as i128;
     far * far
 }
 
+#[tactic(auto, using(crate::proofs::Limits::kept_reach))]
 fn near_corners(p: Point, k: u32, a: Point, b: Point, c: Point, e: u32) -> bool
     requires k_in { k ≤ 6 }
     requires p_in { IsInBox (2 ^ (18 + k)) p }
@@ -26,12 +37,12 @@ fn near_corners(p: Point, k: u32, a: Point, b: Point, c: Point, e: u32) -> bool
     requires e_in { e ≤ 4095 }
     ensures { IsTrue result ↔ IsNearCorners p k e a b c }
 {
-    if is_outside(p, k, a, b, c, e) {
-        return false;
-    }
     let x = gap(p, k, a);
     let y = gap(p, k, b);
     let z = gap(p, k, c);
+    if is_outside(x, y, z, far_of(e, k)) {
+        return false;
+    }
     let reach = reach_of(e, k);
     near_vectors(x, y, z, normal(a, b, c), reach)
 }

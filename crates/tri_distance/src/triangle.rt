@@ -1,15 +1,15 @@
 ghost use Rattle.std.specs.Prelude.{◌↔◌, ◌^◌, IsTrue};
 ghost use Rattle.int_algebra.specs.Within.{IsWithin};
-ghost use Rattle.tri_distance.specs.Vectors.{vector_of, AllWithin};
 ghost use Rattle.tri_distance.specs.Parts.{NearSegment, NearPlane, NearTriangle, IsNormal};
+ghost use Rattle.vectors.specs.Bounded.{IsVectorWithin, vector_of};
 
-use crate::vector::{Vector, cross, dot, minus};
+use vectors::{Vector, cross, dot, minus};
 
 /// Whether some point of the segment from x to y is at most the root of `reach` from the origin.
-#[tactic(auto, using(crate::proofs::Limits::long_vector, crate::proofs::Limits::long_normal))]
+#[tactic(auto, using(vectors::proofs::VectorLemmas::wider))]
 fn near_segment(x: Vector, y: Vector, reach: i128) -> bool
-    requires x_in { AllWithin (2 ^ 24) (vector_of x) }
-    requires y_in { AllWithin (2 ^ 24) (vector_of y) }
+    requires x_in { IsVectorWithin (2 ^ 24) (vector_of x) }
+    requires y_in { IsVectorWithin (2 ^ 24) (vector_of y) }
     requires reach_in { IsWithin (2 ^ 36) reach }
     ensures { IsTrue result ↔ NearSegment (vector_of x) (vector_of y) reach }
 {
@@ -26,12 +26,12 @@ fn near_segment(x: Vector, y: Vector, reach: i128) -> bool
 
 /// Whether the origin's foot on the plane of the triangle x, y, z with the normal m lies inside, and
 /// is at most the root of `reach` from the origin.
-#[tactic(auto, using(crate::proofs::Limits::long_vector, crate::proofs::Limits::long_normal))]
+#[tactic(auto, using(vectors::proofs::VectorLemmas::wider))]
 fn near_plane(x: Vector, y: Vector, z: Vector, m: Vector, reach: i128) -> bool
-    requires x_in { AllWithin (2 ^ 24) (vector_of x) }
-    requires y_in { AllWithin (2 ^ 24) (vector_of y) }
-    requires z_in { AllWithin (2 ^ 24) (vector_of z) }
-    requires m_in { AllWithin (2 ^ 37) (vector_of m) }
+    requires x_in { IsVectorWithin (2 ^ 24) (vector_of x) }
+    requires y_in { IsVectorWithin (2 ^ 24) (vector_of y) }
+    requires z_in { IsVectorWithin (2 ^ 24) (vector_of z) }
+    requires m_in { IsVectorWithin (2 ^ 37) (vector_of m) }
     requires reach_in { IsWithin (2 ^ 36) reach }
     ensures { IsTrue result ↔ NearPlane (vector_of x) (vector_of y) (vector_of z) (vector_of m) reach }
 {
@@ -57,11 +57,12 @@ fn near_plane(x: Vector, y: Vector, z: Vector, m: Vector, reach: i128) -> bool
 
 /// Whether some point of the triangle x, y, z with the normal m is at most the root of `reach` from
 /// the origin.
+#[tactic(auto, using(crate::proofs::Limits::kept_reach))]
 pub fn near_vectors(x: Vector, y: Vector, z: Vector, m: Vector, reach: i128) -> bool
-    requires x_in { AllWithin (2 ^ 24) (vector_of x) }
-    requires y_in { AllWithin (2 ^ 24) (vector_of y) }
-    requires z_in { AllWithin (2 ^ 24) (vector_of z) }
-    requires m_in { AllWithin (2 ^ 37) (vector_of m) }
+    requires x_in { IsVectorWithin (2 ^ 24) (vector_of x) }
+    requires y_in { IsVectorWithin (2 ^ 24) (vector_of y) }
+    requires z_in { IsVectorWithin (2 ^ 24) (vector_of z) }
+    requires m_in { IsVectorWithin (2 ^ 37) (vector_of m) }
     requires normal { IsNormal (vector_of x) (vector_of y) (vector_of z) (vector_of m) }
     requires reach_in { IsWithin (2 ^ 36) reach }
     ensures { IsTrue result ↔ NearTriangle (vector_of x) (vector_of y) (vector_of z) reach }

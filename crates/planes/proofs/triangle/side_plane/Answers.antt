@@ -3,8 +3,8 @@ use Rattle.grid.specs.declared.shapes.Tri.{Tri}
 use Rattle.grid.specs.Boxes.{corner_of}
 use Rattle.grid.specs.Planes as planes
 use Rattle.grid.specs.Planes.{IsDegenerate, value_of, unit_of, largest_axis, normal_of}
-use Rattle.planes.specs.declared.vector.Vector.{Vector}
-use Rattle.planes.specs.Bounded.{vector_of}
+use Rattle.vectors.specs.declared.vector.Vector.{Vector}
+use Rattle.vectors.specs.Bounded.{vector_of}
 use Rattle.planes.specs.Sides.{side_of}
 use Rattle.planes.proofs.SideLemmas.{side_plane-third, side_of-side_plane}
 use Rattle.planes.proofs.triangle.side_plane.Goals as goal
@@ -18,13 +18,13 @@ third : (t : Tri) (n : ℕ) (m : planes.Plane) → n < 3 → m ≡ planes.side_p
 third t n m h e some = subst (λ p. pos 0 <ℤ value_of p (corner_of t ((n + 2) % 3))) (sym e) (side_plane-third t n h some)
 
 pub returns-in-0-clause-side : goal.returns-in-0-clause-side
-returns-in-0-clause-side c = made c.args.tri 0 c.args.i _ _ c.side_through.result c.in-0.is c.normal_of.ensures c.longest_axis-axis.ensures c.side_through.ensures
+returns-in-0-clause-side c = made c.args.tri 0 c.args.i _ _ c.side_through.result c.in-0.is c.normal_of.ensures.value c.longest_axis-axis.ensures c.side_through.ensures
 
 pub returns-in-0-clause-third : goal.returns-in-0-clause-third
 returns-in-0-clause-third c = third c.args.tri c.args.i c.side_through.result c.requires.index (returns-in-0-clause-side c)
 
 pub returns-in-1-clause-side : goal.returns-in-1-clause-side
-returns-in-1-clause-side c = made c.args.tri 1 c.args.i _ _ c.side_through-in-1.result c.in-1.is c.normal_of.ensures c.longest_axis-axis.ensures c.side_through-in-1.ensures
+returns-in-1-clause-side c = made c.args.tri 1 c.args.i _ _ c.side_through-in-1.result c.in-1.is c.normal_of.ensures.value c.longest_axis-axis.ensures c.side_through-in-1.ensures
 
 pub returns-in-1-clause-third : goal.returns-in-1-clause-third
 returns-in-1-clause-third c = third c.args.tri c.args.i c.side_through-in-1.result c.requires.index (returns-in-1-clause-side c)
@@ -32,7 +32,7 @@ returns-in-1-clause-third c = third c.args.tri c.args.i c.side_through-in-1.resu
 pub returns-in_default-clause-side : goal.returns-in_default-clause-side
 returns-in_default-clause-side c =
     let two : c.args.i ≡ 2 = omega (arith, c.requires.index, c.in_default) in
-    made c.args.tri 2 c.args.i _ _ c.side_through-in_default.result two c.normal_of.ensures c.longest_axis-axis.ensures c.side_through-in_default.ensures
+    made c.args.tri 2 c.args.i _ _ c.side_through-in_default.result two c.normal_of.ensures.value c.longest_axis-axis.ensures c.side_through-in_default.ensures
 
 pub returns-in_default-clause-third : goal.returns-in_default-clause-third
 returns-in_default-clause-third c = third c.args.tri c.args.i c.side_through-in_default.result c.requires.index (returns-in_default-clause-side c)

@@ -1,32 +1,31 @@
-use Rattle.std.proofs.Common.{◌≡◌, ℕ, ◌+◌, ◌*◌, ◌^◌, ◌≤◌, ℤ, pos, subst, lit≤, arith, to_z, of_z, to_z-of_z, w32}
-use Rattle.int_algebra.proofs.Bounds.{fits_within}
-use Rattle.grid.specs.declared.shapes.Point.{Point}
-use Rattle.grid.specs.Boxes.{IsUpTo, IsInBox}
-use Rattle.tri_distance.specs.Apart.{IsApart}
-use Rattle.tri_distance.proofs.Limits.{up_to-IsWithin, wider-IsInBox, box_at_most}
-use Rattle.tri_distance.proofs.Beyond.{x_apart, y_apart, z_apart}
+use Rattle.std.proofs.Common.{rules, ℤ, inl, inr, SFits, subst, to_z, of_z, to_z-of_z, w64, ◌≡◌}
+use Rattle.tri_distance.specs.Apart.{AreBeyond}
 use Rattle.tri_distance.proofs.bounding_box.is_outside.Goals as goal
 
-point_in : (k : ℕ) (p : Point) → k ≤ 6 → IsInBox (2 ^ (18 + k)) p → IsInBox (2 ^ 24) p
-point_in k p le h = wider-IsInBox (2 ^ 24) p h (box_at_most k le)
+-- numbers as the code keeps them are the plain ones
+plain : (r x y z : ℤ) → SFits w64 r → SFits w64 x → SFits w64 y → SFits w64 z
+    → AreBeyond (to_z w64 (of_z w64 r)) (to_z w64 (of_z w64 x)) (to_z w64 (of_z w64 y)) (to_z w64 (of_z w64 z)) → AreBeyond r x y z
+plain r x y z d f g h all =
+    let same : AreBeyond (to_z w64 (of_z w64 r)) (to_z w64 (of_z w64 x)) (to_z w64 (of_z w64 y)) (to_z w64 (of_z w64 z)) ≡ AreBeyond r x y z = λ i. AreBeyond (to_z-of_z d i) (to_z-of_z f i) (to_z-of_z g i) (to_z-of_z h i) in
+    subst (λ (A : Type 0). A) same all
 
-corner_in : (p : Point) → IsInBox (2 ^ 18) p → IsInBox (2 ^ 24) p
-corner_in p h = wider-IsInBox (2 ^ 24) p h (lit≤ tt)
+pub returns-then-are_beyond : goal.returns-then-are_beyond
+returns-then-are_beyond c t =
+    let x : SFits w64 c.args.x.x = search rules in
+    let y : SFits w64 c.args.y.x = search rules in
+    let z : SFits w64 c.args.z.x = search rules in
+    inl (plain _ _ _ _ c.ranges.far x y z (c.are_beyond.ensures c.if-are_beyond.true))
 
--- coordinates as the code keeps them are the plain ones
-kept_is : (z : ℤ) → IsUpTo (2 ^ 24) z → to_z w32 (of_z w32 z) ≡ z
-kept_is z h = to_z-of_z (fits_within w32 (up_to-IsWithin z h) (omega arith))
-
-plain-IsApart : (q t r i j l : ℤ) → IsUpTo (2 ^ 24) q → IsUpTo (2 ^ 24) i → IsUpTo (2 ^ 24) j → IsUpTo (2 ^ 24) l → IsApart (to_z w32 (of_z w32 q)) t r (to_z w32 (of_z w32 i)) (to_z w32 (of_z w32 j)) (to_z w32 (of_z w32 l)) → IsApart q t r i j l
-plain-IsApart q t r i j l f g h k apart =
-    let same : IsApart (to_z w32 (of_z w32 q)) t r (to_z w32 (of_z w32 i)) (to_z w32 (of_z w32 j)) (to_z w32 (of_z w32 l)) ≡ IsApart q t r i j l = λ m. IsApart (kept_is q f m) t r (kept_is i g m) (kept_is j h m) (kept_is l k m) in
-    subst (λ (A : Type 0). A) same apart
-
-pub returns-then-is_apart : goal.returns-then-is_apart
-returns-then-is_apart c t = x_apart c.args.p c.args.k c.args.e c.args.a c.args.b c.args.c (plain-IsApart c.args.p.x (pos (2 ^ c.args.k)) (pos (c.args.e * 2 ^ c.args.k)) c.args.a.x c.args.b.x c.args.c.x (point_in c.args.k c.args.p c.requires.k_in c.requires.p_in).x_in (corner_in c.args.a c.requires.corners_in.a_in).x_in (corner_in c.args.b c.requires.corners_in.b_in).x_in (corner_in c.args.c c.requires.corners_in.c_in).x_in (c.is_apart.ensures c.if-is_apart.true))
-
-pub returns-then-is_apart-2 : goal.returns-then-is_apart-2
-returns-then-is_apart-2 c t = y_apart c.args.p c.args.k c.args.e c.args.a c.args.b c.args.c (plain-IsApart c.args.p.y (pos (2 ^ c.args.k)) (pos (c.args.e * 2 ^ c.args.k)) c.args.a.y c.args.b.y c.args.c.y (point_in c.args.k c.args.p c.requires.k_in c.requires.p_in).y_in (corner_in c.args.a c.requires.corners_in.a_in).y_in (corner_in c.args.b c.requires.corners_in.b_in).y_in (corner_in c.args.c c.requires.corners_in.c_in).y_in (c.is_apart-2.ensures c.if-is_apart-2.true))
+pub returns-then-are_beyond-2 : goal.returns-then-are_beyond-2
+returns-then-are_beyond-2 c t =
+    let x : SFits w64 c.args.x.y = search rules in
+    let y : SFits w64 c.args.y.y = search rules in
+    let z : SFits w64 c.args.z.y = search rules in
+    inr (inl (plain _ _ _ _ c.ranges.far x y z (c.are_beyond-2.ensures c.if-are_beyond-2.true)))
 
 pub returns : goal.returns
-returns c t = z_apart c.args.p c.args.k c.args.e c.args.a c.args.b c.args.c (plain-IsApart c.args.p.z (pos (2 ^ c.args.k)) (pos (c.args.e * 2 ^ c.args.k)) c.args.a.z c.args.b.z c.args.c.z (point_in c.args.k c.args.p c.requires.k_in c.requires.p_in).z_in (corner_in c.args.a c.requires.corners_in.a_in).z_in (corner_in c.args.b c.requires.corners_in.b_in).z_in (corner_in c.args.c c.requires.corners_in.c_in).z_in (c.is_apart-3.ensures t))
+returns c t =
+    let x : SFits w64 c.args.x.z = search rules in
+    let y : SFits w64 c.args.y.z = search rules in
+    let z : SFits w64 c.args.z.z = search rules in
+    inr (inr (plain _ _ _ _ c.ranges.far x y z (c.are_beyond-3.ensures t)))

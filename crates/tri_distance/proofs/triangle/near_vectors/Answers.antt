@@ -1,7 +1,6 @@
-use Rattle.std.proofs.Common.{inl, inr, ◌↔◌, ◌⊎◌, ◌≡◌, ◌^◌, Bool, true, false, ℤ, subst, sym, ◌∙◌, to_z-of_z, T}
-use Rattle.int_algebra.specs.Within.{IsWithin}
+use Rattle.std.proofs.Common.{inl, inr, ◌↔◌, ◌⊎◌, ◌≡◌, Bool, true, false, ℤ, subst, sym, ◌∙◌, to_z-of_z, T}
 use Rattle.grid.specs.Vectors.{Vector}
-use Rattle.tri_distance.specs.Vectors.{vector_of}
+use Rattle.vectors.specs.Bounded.{vector_of}
 use Rattle.tri_distance.specs.Parts.{NearSegment, NearPlane, NearTriangle, IsNormal}
 use Rattle.tri_distance.proofs.Moves.{NearEdge}
 use Rattle.tri_distance.proofs.Triangles.{triangle_is}
@@ -24,15 +23,6 @@ plane_decides x y z m r h i j k l e f g p q s t =
     part (inl (inr (inr n))) = absurd (no_part k g s n)
     part (inr n) = t.1 n
 
-pub near_segment-requires-clause-reach_in : goal.near_segment-requires-clause-reach_in
-near_segment-requires-clause-reach_in c = subst (IsWithin (2 ^ 36)) (sym (to_z-of_z c.ranges.reach)) c.requires.reach_in
-
-pub near_segment-requires-2-clause-reach_in : goal.near_segment-requires-2-clause-reach_in
-near_segment-requires-2-clause-reach_in c = subst (IsWithin (2 ^ 36)) (sym (to_z-of_z c.ranges.reach)) c.requires.reach_in
-
-pub near_segment-requires-3-clause-reach_in : goal.near_segment-requires-3-clause-reach_in
-near_segment-requires-3-clause-reach_in c = subst (IsWithin (2 ^ 36)) (sym (to_z-of_z c.ranges.reach)) c.requires.reach_in
-
 pub returns-then-near_segment : goal.returns-then-near_segment
 returns-then-near_segment c =
     let n = subst (NearSegment (vector_of c.args.x) (vector_of c.args.y)) (to_z-of_z c.ranges.reach) (c.near_segment.ensures.0 c.if-near_segment.true) in
@@ -47,9 +37,6 @@ pub returns-then-near_segment-3 : goal.returns-then-near_segment-3
 returns-then-near_segment-3 c =
     let n = subst (NearSegment (vector_of c.args.z) (vector_of c.args.x)) (to_z-of_z c.ranges.reach) (c.near_segment-3.ensures.0 c.if-near_segment-3.true) in
     always_is ((triangle_is (vector_of c.args.x) (vector_of c.args.y) (vector_of c.args.z) (vector_of c.args.m) c.requires.normal.factor c.args.reach c.requires.normal.positive c.requires.normal.same).0 (inl (inr (inr n))))
-
-pub near_plane-requires-clause-reach_in : goal.near_plane-requires-clause-reach_in
-near_plane-requires-clause-reach_in c = subst (IsWithin (2 ^ 36)) (sym (to_z-of_z c.ranges.reach)) c.requires.reach_in
 
 pub returns : goal.returns
 returns c =

@@ -1,11 +1,10 @@
-use Rattle.std.proofs.Common.{◌≡◌, ℕ, ◌*◌, ◌^◌, ◌≤◌, List, [], ◌∷◌, ℤ, pos, ◌*ℤ◌, to_z, subst, sym, ap, ◌∙◌, arith, mul-le-mul, lit≤}
+use Rattle.std.proofs.Common.{◌≡◌, ℕ, ◌*◌, ◌^◌, ◌≤◌, List, [], ◌∷◌, ℤ, pos, ◌*ℤ◌, to_z, sym, ap, ◌∙◌, arith, mul-le-mul, lit≤}
 use mir.Syntax.{w128}
 use Rattle.std.proofs.Math.Facts.{to_z_pos}
 use Rattle.int_algebra.specs.Within.{IsWithin}
-use Rattle.int_algebra.proofs.Bounds.{AreWithin, within_cast, wider-IsWithin}
+use Rattle.int_algebra.proofs.Bounds.{AreWithin, within_cast}
 use Rattle.int_algebra.proofs.Kept.{Code, variable, ◌⊗◌, kept, kept-value, fits_code}
 use Rattle.grid.proofs.Gaps.{square_is}
-use Rattle.planes.proofs.VectorLemmas.{dot-IsWithin}
 use Rattle.planes.proofs.plane.Plane.new.Goals as goal
 
 abbrev product : Code
@@ -24,7 +23,7 @@ sq_snap_in c =
 
 length_in : (c : goal.After-squared_length) → IsWithin (2 ^ 76) c.squared_length.result
 length_in c =
-    subst (IsWithin (2 ^ 76)) (sym c.squared_length.ensures) (wider-IsWithin (2 ^ 76) (dot-IsWithin c.requires.normal_in c.requires.normal_in) (lit≤ tt))
+    c.squared_length.ensures.within (2 ^ 37) (2 ^ 76) c.requires.normal_in (lit≤ tt)
 
 all_in : (c : goal.After-squared_length) → AreWithin bounds (values (c.args.snap * c.args.snap) c.squared_length.result)
 all_in c = (within_cast w128 (2 ^ 24) (c.args.snap * c.args.snap) (sq_snap_in c) (omega (arith, sq_snap_in c)), (length_in c, tt))
@@ -38,5 +37,5 @@ invariant_of-result c =
     let sq : to_z w128 (c.args.snap * c.args.snap) ≡ pos (c.args.snap ^ 2) = cast ∙ ap pos (sym (square_is c.args.snap)) in
     record {
       bounded = record { normal_in = c.requires.normal_in; origin_in = c.requires.origin_in; snap_low = c.requires.snap_low; snap_high = c.requires.snap_high };
-      reach_is = kept-value bounds (values (c.args.snap * c.args.snap) c.squared_length.result) (all_in c) (kept w128 product) tt ∙ (λ i. sq i *ℤ c.squared_length.ensures i);
+      reach_is = kept-value bounds (values (c.args.snap * c.args.snap) c.squared_length.result) (all_in c) (kept w128 product) tt ∙ (λ i. sq i *ℤ c.squared_length.ensures.value i);
     }
