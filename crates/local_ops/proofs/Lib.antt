@@ -1,6 +1,7 @@
 pub mod Attempted
 pub mod TrackedCounts
 pub mod Members
+pub mod Listed
 pub mod Corners
 pub mod FaceLists
 pub mod FaceCounts

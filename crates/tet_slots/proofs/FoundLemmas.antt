@@ -9,7 +9,7 @@ use Rattle.std.proofs.lemmas.List.Kept.{AllPairs-from_increasing, IsStrictlyIncr
 use Rattle.std.proofs.lemmas.List.Sorted.{Contains-permutation, IsPermutation-sym}
 use Rattle.std.specs.Map.{lookup, keys_of}
 use Rattle.smallvec.specs.SmallVec.{SmallVec}
-use Rattle.indexmap.specs.IndexMap.{IndexMap}
+use Rattle.indexmap.specs.IndexMap.{IndexMap, get}
 use Rattle.grid.specs.Simplices.{has, Rises}
 use Rattle.tet_slots.specs.declared.bins.Bin.{Bin}
 use Rattle.tet_slots.specs.Bins.{same_bin, numbers_in, in_bin}
@@ -130,6 +130,16 @@ pub read-from_get : {X : Type 0} (xs : List X) (k : ℕ) (v d : X) → Some v �
 read-from_get [] k v d h = cc
 read-from_get (x ∷ xs) zero v d h = cc
 read-from_get (x ∷ xs) (suc k) v d h = read-from_get xs k v d h
+
+key-from_get : {X : Type 0} (es : List (Bin × X)) (k : ℕ) (b : Bin) (v : X) (d : Bin) → slice_get es k ≡ Some (b, v) → get_or (keys_of es) k d ≡ b
+key-from_get [] k b v d h = cc
+key-from_get (e ∷ es) zero b v d h = cc
+key-from_get (e ∷ es) (suc k) b v d h = key-from_get es k b v d h
+
+module _ {S : Type 0} where
+  -- the list at an index is that of the bin whose key is there
+  pub list-at_key : (bins : IndexMap Bin (SmallVec ℕ) S) (k : ℕ) (b : Bin) (v : SmallVec ℕ) (d : Bin) → slice_get bins.entries k ≡ Some (b, v) → get same_bin bins b ≡ Some v → in_bin bins (get_or (keys_of bins.entries) k d) ≡ v.items
+  list-at_key bins k b v d entry value = ap (in_bin bins) (key-from_get bins.entries k b v d entry) ∙ ap numbers_in value
 
 -- ---- two rising lists with the same numbers are one
 rises-from : (xs : List ℕ) → AllPairs (λ x y. x < y) xs → Rises xs

@@ -186,11 +186,13 @@ impl<'a> Quest<'a> {
         ensures grows { OnOk result (Grows (passes self.now.points.now self.now.slots.now self.now.lo self.now.hi) into.old.items into.new.items) }
         ensures found { OnOk result ((d : Bin) → Finds (passes self.now.points.now self.now.slots.now self.now.lo self.now.hi) (in_bin bins.now (slice_index_or (keys bins.now) k d)) into.new.items) }
     {
-        let bin = bins.keys()[k];
-        if !block.has(bin) {
+        let Some((bin, list)) = bins.get_index(k) else {
+            return Ok(());
+        };
+        if !block.has(*bin) {
             return Ok(());
         }
-        self.find_in_bin(bins, bin, into)?;
+        self.find_in_list(list.as_slice(), into)?;
         Ok(())
     }
 

@@ -1,5 +1,6 @@
 ghost use Rattle.grid.specs.Determinants.{point_at};
 ghost use Rattle.grid.specs.Simplices.{IsTet};
+ghost use Rattle.std.specs.List.{filter};
 ghost use Rattle.std.specs.Prelude.{All, IfOk, OnErr, OnOk, [], false, length, take, slice_set, true, ◌++◌, ◌-◌, ◌<◌, ◌^◌, ◌∷◌, ◌≡◌};
 ghost use Rattle.tet_slots.specs.Searches.{has_corner, has_edge, meets, numbers_of};
 ghost use Rattle.tet_slots.specs.Slots.{IsSound, IsUnused, SlotLists, is_forgotten, slot_at, with_live};
@@ -152,6 +153,17 @@ impl Slots {
         point_lists::leave(&mut self.lists, &self.slots[slot as usize].tet.0, slot);
         levels::leave(&mut self.levels, self.places[slot as usize], slot);
         self.forgotten[slot as usize] = true;
+    }
+
+    /// Slots in rising order, of which the live ones are those that have u. Takes no memory.
+    pub fn listed(&self, u: u32) -> &[u32]
+        ensures there { All (λ i. i < length self.now.slots) result.now }
+        ensures live { filter (λ i. (slot_at self.now.slots i).live) result.now ≡ numbers_of (has_corner u) 0 self.now.slots }
+    {
+        if u as usize >= self.lists.len() {
+            return &[];
+        }
+        self.lists[u as usize].as_slice()
     }
 
     /// Makes `into` the live slots that have u, in rising order. After Memory nothing is said of it.

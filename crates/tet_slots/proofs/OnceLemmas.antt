@@ -1,0 +1,64 @@
+-- Lists that have each number once.
+use Rattle.std.proofs.Common.{Some, ◌≡◌, ℕ, Bool, true, false, not, cond, ◌&&◌, ◌||◌, nat_eq, Option, List, [], ◌∷◌, ◌++◌, refl, sym, subst, ◌∙◌, ap, inl, inr}
+use Rattle.std.specs.List.{filter}
+use Rattle.std.specs.Prelude.{option_to_list}
+use Rattle.std.proofs.lemmas.Bool.{cases_Bool, eq-eqb, eqb-true, false≢true}
+use Rattle.grid.specs.Simplices.{has, AreDifferent}
+use Rattle.tet_slots.specs.PointLists.{and_last, but}
+use Rattle.tet_slots.proofs.PointListLemmas.{has-push}
+use Rattle.tet_slots.proofs.FoundLemmas.{has-filter}
+
+no-more : (a b : Bool) → a ≡ false → (a && b) ≡ false
+no-more a b h = ap (λ (t : Bool). t && b) h
+
+neither : (a b : Bool) → (a || b) ≡ false → (a ≡ false) × (b ≡ false)
+neither true b h = absurd (false≢true (sym h))
+neither false b h = (refl, h)
+
+pub AreDifferent-filter : (test : ℕ → Bool) (xs : List ℕ) → AreDifferent xs → AreDifferent (filter test xs)
+AreDifferent-filter test [] d = tt
+AreDifferent-filter test (x ∷ xs) d = by (test x) (has-filter test xs x ∙ no-more (has xs x) (test x) d.0) (AreDifferent-filter test xs d.1)
+  where
+    by : (t : Bool) → has (filter test xs) x ≡ false → AreDifferent (filter test xs) → AreDifferent (cond t (x ∷ filter test xs) (filter test xs))
+    by true none rest = (none, rest)
+    by false none rest = rest
+
+AreDifferent-push : (xs : List ℕ) (n : ℕ) → AreDifferent xs → has xs n ≡ false → AreDifferent (and_last n xs)
+AreDifferent-push [] n d h = (refl, tt)
+AreDifferent-push (x ∷ xs) n d h =
+    let parts = neither (nat_eq x n) (has xs n) h in
+    (has-push xs n x ∙ (ap (λ (t : Bool). t || nat_eq n x) d.0 ∙ apart n x parts.0), AreDifferent-push xs n d.1 parts.1)
+  where
+    apart : (n x : ℕ) → nat_eq x n ≡ false → nat_eq n x ≡ false
+    apart n x h = elim (cases_Bool (nat_eq n x)) [
+      | inl e ↦ absurd (false≢true (sym h ∙ eq-eqb x n (sym (eqb-true n x e))))
+      | inr e ↦ e
+    ]
+
+-- a number was put in or taken out
+pub AreDifferent-put : (c : Bool) (n : ℕ) (xs : List ℕ) → AreDifferent xs → has xs n ≡ false → AreDifferent (cond c (and_last n xs) xs)
+AreDifferent-put true n xs d h = AreDifferent-push xs n d h
+AreDifferent-put false n xs d h = d
+
+pub AreDifferent-taken : (c : Bool) (k : ℕ) (xs : List ℕ) → AreDifferent xs → AreDifferent (cond c (but k xs) xs)
+AreDifferent-taken true k xs d = AreDifferent-filter (λ j. not (nat_eq j k)) xs d
+AreDifferent-taken false k xs d = d
+
+but-push : (k : ℕ) (xs : List ℕ) → AreDifferent (and_last k xs) → but k (and_last k xs) ≡ xs
+but-push k [] d = ap (λ (t : Bool). cond (not t) (k ∷ []) []) (eq-eqb k k refl)
+but-push k (x ∷ xs) d =
+    let parts = neither (has xs x) (nat_eq k x) (sym (has-push xs k x) ∙ d.0) in
+    ap (λ (t : Bool). cond (not t) (x ∷ but k (and_last k xs)) (but k (and_last k xs))) (apart parts.1)
+    ∙ ap (λ (ys : List ℕ). x ∷ ys) (but-push k xs d.1)
+  where
+    apart : nat_eq k x ≡ false → nat_eq x k ≡ false
+    apart h = elim (cases_Bool (nat_eq x k)) [
+      | inl e ↦ absurd (false≢true (sym h ∙ eq-eqb k x (sym (eqb-true x k e))))
+      | inr e ↦ e
+    ]
+
+-- what stands last was popped
+pub but-popped : (k : ℕ) (old new : List ℕ) (o : Option ℕ) → AreDifferent old → o ≡ Some k → old ≡ new ++ option_to_list o → new ≡ but k old
+but-popped k old new o d e h =
+    let is : old ≡ and_last k new = h ∙ ap (λ (p : Option ℕ). new ++ option_to_list p) e in
+    sym (ap (but k) is ∙ but-push k new (subst AreDifferent is d))
