@@ -1,5 +1,5 @@
 -- A try that is listed already changes nothing of the lowest.
-use Rattle.std.proofs.Common.{◌≡◌, Bool, true, false, ◌&&◌, cond, List, Option, None, Some, refl, inl, inr}
+use Rattle.std.proofs.Common.{◌≡◌, Bool, true, false, ◌&&◌, cond, List, [], ◌∷◌, Option, None, Some, refl, sym, inl, inr}
 use Rattle.std.specs.List.{Contains}
 use Rattle.std.proofs.lemmas.Bool.{cases_Bool}
 use Rattle.std.proofs.lemmas.List.Elements.{All-contains, All-from_recursion}
@@ -28,3 +28,7 @@ lower-again p ts t c = elim (cases_Bool (p t)) [
     first : (a b : Bool) → a ≡ false → (a && b) ≡ false
     first true b e = cc e
     first false b e = refl
+
+pub listed-again : (p : Try → Bool) (ts : List Try) (t : Try) (b : Bool) → Contains ts t → lowest p None ts ≡ lowest p (lowest p None ts) (cond b (t ∷ []) [])
+listed-again p ts t true c = sym (lower-again p ts t c)
+listed-again p ts t false c = refl

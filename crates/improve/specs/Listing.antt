@@ -18,6 +18,10 @@ candidates_at tets kind u =
 abbrev pub HasSameLowest : List Try → List Try → Type 0
 HasSameLowest ts others = (p : Try → Bool) → lowest p None ts ≡ lowest p None others
 
+-- so it is where tries are added to others
+abbrev pub HaveSameLowestWith : (news olds added : List Try) → Type 0
+HaveSameLowestWith news olds added = (p : Try → Bool) → lowest p None news ≡ lowest p (lowest p None olds) added
+
 -- what is listed and counts is so among the tetrahedra
 abbrev pub IsCurrent : List (List ℕ) → Listed → Type 0
 IsCurrent tets listed = listed.is_current ≡ true → HasSameLowest listed.tries.items (candidates_at tets listed.kind listed.point)

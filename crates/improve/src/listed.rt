@@ -6,7 +6,6 @@ ghost use Rattle.std.specs.Prelude.{IsTrue, List, OnOk, false, true, ℕ, ◌≡
 
 use crate::kind::Kind;
 use crate::listing::list_tries;
-use crate::repeats::list_once;
 use crate::star::find_star;
 use grid::{Memory, Tet};
 use mesh_types::{Try, Verdict};
@@ -21,7 +20,6 @@ pub(crate) struct Listed {
     pub(crate) kind: Kind,
     pub(crate) point: u32,
     pub(crate) tries: Vec<Try>,
-    proposed: Vec<Try>,
     star: Vec<Tet>,
     numbers: Vec<u32>,
 }
@@ -35,7 +33,6 @@ pub(crate) fn none_listed(alloc: Global) -> Listed
         kind: Kind::Split,
         point: 0,
         tries: Vec::new(alloc),
-        proposed: Vec::new(alloc),
         star: Vec::new(alloc),
         numbers: Vec::new(alloc),
     }
@@ -74,8 +71,7 @@ fn list_anew(slots: &Slots, listed: &mut Listed, kind: Kind, u: u32) -> Result<(
     ensures tries { OnOk result (HasSameLowest listed.new.tries.items (candidates_at (live_tets slots.now.slots) kind u)) }
 {
     find_star(slots, u, &mut listed.numbers, &mut listed.star)?;
-    list_tries(&listed.star, kind, u, &mut listed.proposed)?;
-    list_once(&listed.proposed, &mut listed.tries)?;
+    list_tries(&listed.star, kind, u, &mut listed.tries)?;
     listed.kind = kind;
     listed.point = u;
     listed.is_current = true;

@@ -1,23 +1,26 @@
 // The candidates of a kind among the tries that begin with a point.
 ghost use Rattle.grid.specs.Views.{corners_of};
+ghost use Rattle.improve.specs.Listing.{HasSameLowest, HaveSameLowestWith};
 ghost use Rattle.improve.specs.Search.{tries_at_corner, tries_at_tet};
 ghost use Rattle.mesh_types.specs.Tries.{is_candidate};
 ghost use Rattle.std.specs.List.{filter, flat_map};
 ghost use Rattle.std.specs.Prelude.{OnOk, [], map, ◌++◌, ◌∷◌, ◌≡◌};
 
 use crate::kind::Kind;
-use crate::star::is_candidate;
+use crate::repeats::is_among;
+use crate::star::{is_candidate, may_be_candidate};
 use grid::{Memory, Tet};
 use mesh_types::Try;
 
-/// Makes `tries` the candidates of a kind that begin with u, as the tetrahedra that have u propose them.
+/// Makes `tries` the candidates of a kind that begin with u, as the tetrahedra that have u propose them,
+/// each once.
 pub(crate) fn list_tries(
     star: &[Tet],
     kind: Kind,
     u: u32,
     tries: &mut Vec<Try>,
 ) -> Result<(), Memory>
-    ensures { OnOk result (tries.new.items ≡ filter (is_candidate (corners_of star.now)) (flat_map (tries_at_tet kind u) (corners_of star.now))) }
+    ensures { OnOk result (HasSameLowest tries.new.items (filter (is_candidate (corners_of star.now)) (flat_map (tries_at_tet kind u) (corners_of star.now)))) }
 {
     tries.clear();
     for tet in star {
@@ -33,7 +36,7 @@ fn push_of_tet(
     tet: Tet,
     tries: &mut Vec<Try>,
 ) -> Result<(), Memory>
-    ensures { OnOk result (tries.new.items ≡ tries.old.items ++ filter (is_candidate (corners_of star.now)) (tries_at_tet kind u tet.0)) }
+    ensures { OnOk result (HaveSameLowestWith tries.new.items tries.old.items (filter (is_candidate (corners_of star.now)) (tries_at_tet kind u tet.0))) }
 {
     for v in &tet.0 {
         push_of_corner(star, kind, u, tet, *v, tries)?;
@@ -49,7 +52,7 @@ fn push_of_corner(
     v: u32,
     tries: &mut Vec<Try>,
 ) -> Result<(), Memory>
-    ensures { OnOk result (tries.new.items ≡ tries.old.items ++ filter (is_candidate (corners_of star.now)) (tries_at_corner kind u tet.0 v)) }
+    ensures { OnOk result (HaveSameLowestWith tries.new.items tries.old.items (filter (is_candidate (corners_of star.now)) (tries_at_corner kind u tet.0 v))) }
 {
     match kind {
         Kind::Split => push_candidate(star, Try::Split(u, v), tries),
@@ -61,7 +64,7 @@ fn push_of_corner(
 }
 
 fn push_of_edge(star: &[Tet], u: u32, v: u32, tet: Tet, tries: &mut Vec<Try>) -> Result<(), Memory>
-    ensures { OnOk result (tries.new.items ≡ tries.old.items ++ filter (is_candidate (corners_of star.now)) (map (λ w. Try.FaceSwap u v w) tet.0)) }
+    ensures { OnOk result (HaveSameLowestWith tries.new.items tries.old.items (filter (is_candidate (corners_of star.now)) (map (λ w. Try.FaceSwap u v w) tet.0))) }
 {
     for w in &tet.0 {
         push_candidate(star, Try::FaceSwap(u, v, *w), tries)?;
@@ -70,15 +73,21 @@ fn push_of_edge(star: &[Tet], u: u32, v: u32, tet: Tet, tries: &mut Vec<Try>) ->
 }
 
 fn push_shifts(star: &[Tet], u: u32, tries: &mut Vec<Try>) -> Result<(), Memory>
-    ensures { OnOk result (tries.new.items ≡ tries.old.items ++ filter (is_candidate (corners_of star.now)) (Try.Shift u 0 ∷ Try.Shift u 1 ∷ [])) }
+    ensures { OnOk result (HaveSameLowestWith tries.new.items tries.old.items (filter (is_candidate (corners_of star.now)) (Try.Shift u 0 ∷ Try.Shift u 1 ∷ []))) }
 {
     push_candidate(star, Try::Shift(u, 0), tries)?;
     push_candidate(star, Try::Shift(u, 1), tries)
 }
 
 fn push_candidate(star: &[Tet], t: Try, tries: &mut Vec<Try>) -> Result<(), Memory>
-    ensures { OnOk result (tries.new.items ≡ tries.old.items ++ filter (is_candidate (corners_of star.now)) (t ∷ [])) }
+    ensures { OnOk result (HaveSameLowestWith tries.new.items tries.old.items (filter (is_candidate (corners_of star.now)) (t ∷ []))) }
 {
+    if !may_be_candidate(t) {
+        return Ok(());
+    }
+    if is_among(tries, t) {
+        return Ok(());
+    }
     if is_candidate(star, t) {
         tries.push(t)?;
     }

@@ -1,41 +1,30 @@
-// A list of tries without repeats.
-ghost use Rattle.improve.specs.Listing.{HasSameLowest};
-ghost use Rattle.improve.specs.Search.{lower, lowest};
-ghost use Rattle.mesh_types.specs.declared.tries.Try.{Try};
+// Whether a try is listed already.
 ghost use Rattle.std.specs.List.{Contains};
-ghost use Rattle.std.specs.Prelude.{Bool, IsTrue, None, OnOk, ◌≡◌};
+ghost use Rattle.std.specs.Prelude.{IsTrue, ◌≡◌};
 
-use grid::Memory;
 use mesh_types::Try;
 
-/// Makes `into` the tries, each once.
-pub(crate) fn list_once(tries: &[Try], into: &mut Vec<Try>) -> Result<(), Memory>
-    ensures { OnOk result (HasSameLowest into.new.items tries.now) }
-{
-    into.clear();
-    for t in tries {
-        push_new(into, *t)?;
-    }
-    Ok(())
-}
-
-fn push_new(into: &mut Vec<Try>, t: Try) -> Result<(), Memory>
-    ensures { OnOk result ((p : Try → Bool) → lowest p None into.new.items ≡ lower p (lowest p None into.old.items) t) }
-{
-    if is_among(into, t) {
-        return Ok(());
-    }
-    into.push(t)?;
-    Ok(())
-}
-
-fn is_among(tries: &[Try], t: Try) -> bool
+/// Whether the try is one of these.
+pub(crate) fn is_among(tries: &[Try], t: Try) -> bool
     ensures { IsTrue result → Contains tries.now t }
 {
     for s in tries {
-        if *s == t {
+        if is_same(*s, t) {
             return true;
         }
     }
     false
+}
+
+fn is_same(s: Try, t: Try) -> bool
+    ensures { IsTrue result → s ≡ t }
+{
+    match (s, t) {
+        (Try::Split(a, b), Try::Split(c, d)) => a == c && b == d,
+        (Try::Collapse(a, b), Try::Collapse(c, d)) => a == c && b == d,
+        (Try::EdgeSwap(a, b), Try::EdgeSwap(c, d)) => a == c && b == d,
+        (Try::FaceSwap(a, b, c), Try::FaceSwap(d, e, f)) => a == d && b == e && c == f,
+        (Try::Shift(a, i), Try::Shift(b, k)) => a == b && i == k,
+        _ => false,
+    }
 }

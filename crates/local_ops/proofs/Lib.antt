@@ -30,3 +30,5 @@ pub mod Once
 pub mod Aims
 pub mod NearSlots
 pub mod Foreseen
+pub mod Swapped
+pub mod Worsened

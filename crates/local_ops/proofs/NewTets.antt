@@ -52,13 +52,13 @@ pub single-passes : (r : Result) → list_all (has_single_faces r.mesh.tets) r.f
 single-passes r h = single_test r (list_all-flat (λ g. nat_lt (count g r.mesh.tets) 2) faces r.fresh h)
 
 -- a face of a tetrahedron has three corners
-record IsThree (g : List ℕ) : Type 0 where
+pub record IsThree (g : List ℕ) : Type 0 where
   pub a : ℕ
   pub b : ℕ
   pub c : ℕ
   pub is : g ≡ a ∷ b ∷ c ∷ []
 
-face-three : (x g : List ℕ) → Among (faces x) g → IsThree g
+pub face-three : (x g : List ℕ) → Among (faces x) g → IsThree g
 face-three (a ∷ b ∷ c ∷ d ∷ []) g (inl e) = record { a = a; b = c; c = b; is = sym e }
 face-three (a ∷ b ∷ c ∷ d ∷ []) g (inr (inl e)) = record { a = a; b = b; c = d; is = sym e }
 face-three (a ∷ b ∷ c ∷ d ∷ []) g (inr (inr (inl e))) = record { a = a; b = d; c = c; is = sym e }

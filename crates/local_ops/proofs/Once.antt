@@ -1,8 +1,8 @@
 -- Where no oriented face occurs twice, a split and a shift make none occur twice, nor does a collapse that lays no face on another.
-use Rattle.std.proofs.Common.{◌≡◌, ◌≢◌, ℕ, ◌<◌, ◌≤◌, Bool, true, false, not, ◌&&◌, ◌||◌, cond, List, [], ◌∷◌, ◌++◌, map, length, ℤ, pos, ◌+ℤ◌, ◌≤ℤ◌, refl, sym, ◌∙◌, ap, subst, inl, inr, arith}
+use Rattle.std.proofs.Common.{◌≡◌, ◌≢◌, ℕ, ◌<◌, ◌≤◌, Bool, true, false, not, ◌&&◌, ◌||◌, cond, List, [], ◌∷◌, ◌++◌, map, length, pos, ◌+ℤ◌, ◌≤ℤ◌, refl, sym, ◌∙◌, ap, subst, inl, inr, arith}
 use Rattle.std.specs.List.{filter, flat_map, list_all, AllByRecursion as Each}
 use Rattle.std.specs.Prelude.{count_by, nat_lt}
-use Rattle.std.proofs.lemmas.Bool.{cases_Bool, and_parts, ltb-false, true≢false}
+use Rattle.std.proofs.lemmas.Bool.{cases_Bool, and_parts, ltb-false}
 use Rattle.std.proofs.lemmas.Int.{ints}
 use Rattle.std.proofs.lemmas.List.Concat.{flat_map_single}
 use Rattle.std.proofs.lemmas.List.Elements.{recursion_from_All}
@@ -30,13 +30,13 @@ use Rattle.mesh_types.proofs.Refinement.{Each-map, flat_map-none}
 use Rattle.mesh_types.proofs.Replaced.{has_none, has_none_from, replaced-back}
 use Rattle.mesh_types.proofs.Rotated.{count-rotation}
 use Rattle.mesh_types.proofs.Same.{rotations}
-use Rattle.mesh_types.proofs.Searches.{any_among, filter-among}
+use Rattle.mesh_types.proofs.Searches.{filter-among}
 use Rattle.mesh_types.proofs.Splits.{cornered_tets}
 use Rattle.mesh_types.proofs.Step.{once-split}
 use Rattle.mesh_types.proofs.Sums.{bit, total}
 use Rattle.mesh_types.proofs.Transfer.{HaveSameSums, sums-parted}
 use Rattle.mesh_types.proofs.Twins.{twins-none}
-use Rattle.local_ops.specs.Apart.{is_apart, occurs_without}
+use Rattle.local_ops.specs.Apart.{is_apart, is_apart_from, shares_no_face}
 use Rattle.local_ops.proofs.Ends.{split_ends}
 use Rattle.local_ops.proofs.NewTets.{true-at}
 
@@ -176,16 +176,16 @@ module _ (m : Mesh) (once : NoFaceTwice m) (u v : ℕ) where
     -- a face that a moved tetrahedron takes on occurs in none that stays
     face-alone : (x g : List ℕ) → Among gone x → has x v ≡ false → Among (faces (replaced u v x)) g → (z : List ℕ) → Among (filter (λ x. has x v) m.tets) z → has z u ≡ false → nat_lt 0 (count_by (is_rotation g) (faces z)) ≡ false
     face-alone x g i off j z k no_u =
+        let y = replaced u v x in
         let one = true-at (is_apart u v (filter (λ x. has x v) m.tets)) gone x apart i in
-        let all : list_all (λ f. not (occurs_without u (filter (λ x. has x v) m.tets) f)) (faces (replaced u v x)) ≡ true = rw off at one in
-        let none = true-at (λ f. not (occurs_without u (filter (λ x. has x v) m.tets) f)) (faces (replaced u v x)) g all j in
-        elim (cases_Bool (nat_lt 0 (count_by (is_rotation g) (faces z)))) [
-          | inr e ↦ e
-          | inl e ↦
-              let here : (not (has z u) && nat_lt 0 (count_by (is_rotation g) (faces z))) ≡ true = rw (no_u, e) refl in
-              let some = any_among (λ y. not (has y u) && nat_lt 0 (count_by (is_rotation g) (faces y))) (filter (λ x. has x v) m.tets) z k here in
-              absurd (true≢false (sym none ∙ ap not some))
-        ]
+        let all : list_all (is_apart_from u y) (filter (λ x. has x v) m.tets) ≡ true = rw off at one in
+        let from = true-at (is_apart_from u y) (filter (λ x. has x v) m.tets) z all k in
+        let none : shares_no_face y z ≡ true = rw no_u at from in
+        not-true (nat_lt 0 (count_by (is_rotation g) (faces z))) (true-at (λ f. not (nat_lt 0 (count_by (is_rotation f) (faces z)))) (faces y) g none j)
+      where
+        not-true : (b : Bool) → not b ≡ true → b ≡ false
+        not-true true e = sym e
+        not-true false e = refl
 
     abbrev IsAlone : List ℕ → Type 0
     IsAlone g = (z : List ℕ) → Among (filter (λ x. has x v) m.tets) z → has z u ≡ false → nat_lt 0 (count_by (is_rotation g) (faces z)) ≡ false

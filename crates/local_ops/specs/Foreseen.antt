@@ -8,9 +8,9 @@ use Rattle.grid.specs.Energy.{energy}
 use Rattle.grid.specs.Meshes.{Mesh}
 use Rattle.grid.specs.Simplices.{has, replaced}
 use Rattle.mesh_types.specs.declared.tries.Try.{Try}
-use Rattle.mesh_types.specs.declared.tries.Try.TheVariants.{Split, Shift, Collapse, FaceSwap, EdgeSwap}
+use Rattle.mesh_types.specs.declared.tries.Try.TheVariants.{Split, Shift, Collapse}
 use Rattle.mesh_types.specs.declared.tries.Verdict.TheVariants as verdict
-use Rattle.mesh_types.specs.Results.{Result, result_of}
+use Rattle.mesh_types.specs.Results.{result_of}
 use Rattle.mesh_types.specs.Verdicts.{Setting, IsVerdict, energy_at, largest}
 use Rattle.tet_slots.specs.declared.slot.Slot.{Slot}
 use Rattle.tet_slots.specs.Searches.{numbers_of}

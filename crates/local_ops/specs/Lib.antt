@@ -5,3 +5,4 @@ pub mod Smoothing
 pub mod Attempts
 pub mod Foreseen
 pub mod Apart
+pub mod Swaps

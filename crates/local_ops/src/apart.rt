@@ -1,13 +1,13 @@
 // Whether a collapse lays a face on another.
 ghost use Rattle.grid.specs.Simplices.{faces, has, is_rotation};
-ghost use Rattle.local_ops.specs.Apart.{is_apart, occurs_without};
+ghost use Rattle.local_ops.specs.Apart.{is_apart, is_apart_from, shares_no_face, shares_three};
 ghost use Rattle.local_ops.specs.Foreseen.{near_tets};
 ghost use Rattle.local_ops.specs.Measures.{corners_at};
 ghost use Rattle.mesh_types.specs.declared.tries.Try.TheVariants.{Shift};
 ghost use Rattle.std.specs.List.{list_all};
-ghost use Rattle.std.specs.Prelude.{All, IfOk, count_by, length, map, nat_lt, not, ◌&&◌, ◌<◌, ◌≡◌};
+ghost use Rattle.std.specs.Prelude.{All, IfOk, count_by, length, map, nat_lt, ◌<◌, ◌≡◌};
 
-use crate::single::count_in;
+use crate::single::{count_faces, has_corners};
 use grid::{Face, Memory, Tet};
 use std::alloc::Global;
 use tet_slots::Slots;
@@ -46,40 +46,66 @@ fn is_apart(slots: &Slots, tet: Tet, around: &[u32], u: u32, v: u32) -> bool
     requires { All (λ i. i < length slots.now.slots) around.now }
     ensures { result ≡ is_apart u v (map (corners_at slots.now.slots) around.now) tet.0 }
 {
-    tet.has(v) || none_occurs(slots, tet.subst(u, v), around, u)
+    tet.has(v) || is_apart_from_all(slots, tet.subst(u, v), around, u)
 }
 
 /// Whether no face of the tetrahedron is one of a tetrahedron in these slots that has not u.
-fn none_occurs(slots: &Slots, tet: Tet, around: &[u32], u: u32) -> bool
+fn is_apart_from_all(slots: &Slots, tet: Tet, around: &[u32], u: u32) -> bool
     requires { All (λ i. i < length slots.now.slots) around.now }
-    ensures { result ≡ list_all (λ f. not (occurs_without u (map (corners_at slots.now.slots) around.now) f)) (faces tet.0) }
+    ensures { result ≡ list_all (is_apart_from u tet.0) (map (corners_at slots.now.slots) around.now) }
 {
-    for face in tet.faces() {
-        if occurs_without(slots, face, around, u) {
+    for slot in around {
+        if !is_apart_from(tet, slots.tet(*slot), u) {
             return false;
         }
     }
     true
 }
 
-fn occurs_without(slots: &Slots, face: Face, around: &[u32], u: u32) -> bool
-    requires { All (λ i. i < length slots.now.slots) around.now }
-    ensures { result ≡ occurs_without u (map (corners_at slots.now.slots) around.now) face.0 }
+/// Whether the other tetrahedron has u, or no face of this one.
+fn is_apart_from(tet: Tet, other: Tet, u: u32) -> bool
+    ensures { result ≡ is_apart_from u tet.0 other.0 }
 {
-    for slot in around {
-        if is_face_without(face, slots.tet(*slot), u) {
-            return true;
-        }
-    }
-    false
+    other.has(u) || shares_no_face(tet, other)
 }
 
-/// Whether the tetrahedron has the face and not u.
-fn is_face_without(face: Face, tet: Tet, u: u32) -> bool
-    ensures { result ≡ (not (has tet.0 u) && nat_lt 0 (count_by (is_rotation face.0) (faces tet.0))) }
+/// Whether no face of the one tetrahedron is a face of the other.
+fn shares_no_face(tet: Tet, other: Tet) -> bool
+    ensures { result ≡ shares_no_face tet.0 other.0 }
 {
-    if tet.has(u) {
-        return false;
+    if shares_three(tet, other) {
+        has_no_face(tet, other)
+    } else {
+        true
     }
-    count_in(face, tet) > 0
+}
+
+/// Whether three corners of the one tetrahedron are corners of the other.
+fn shares_three(tet: Tet, other: Tet) -> bool
+    ensures { result ≡ shares_three tet.0 other.0 }
+{
+    let Tet([a, b, c, d]) = tet;
+    let has_a = other.has(a);
+    let has_b = other.has(b);
+    let has_c = other.has(c);
+    let has_d = other.has(d);
+    (has_a && has_b && (has_c || has_d)) || (has_c && has_d && (has_a || has_b))
+}
+
+fn has_no_face(tet: Tet, other: Tet) -> bool
+    ensures { result ≡ shares_no_face tet.0 other.0 }
+{
+    let [f, g, h, k] = tet.faces();
+    !is_face(f, other) && !is_face(g, other) && !is_face(h, other) && !is_face(k, other)
+}
+
+/// Whether the face is one of the tetrahedron's.
+pub(crate) fn is_face(face: Face, tet: Tet) -> bool
+    ensures { result ≡ nat_lt 0 (count_by (is_rotation face.0) (faces tet.0)) }
+{
+    if has_corners(tet, face) {
+        count_faces(face, tet) > 0
+    } else {
+        false
+    }
 }

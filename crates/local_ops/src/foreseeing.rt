@@ -15,6 +15,8 @@ ghost use Rattle.tet_slots.specs.Searches.{numbers_of};
 use crate::apart::are_apart;
 use crate::moving::{are_better, are_positive};
 use crate::smoothing::{midpoint, target};
+use crate::swapping::{are_three_positive, sides_of_face};
+use crate::worsening::is_seen_worse;
 use grid::{Memory, Point};
 use mesh_store::Store;
 use mesh_types::{Try, Why};
@@ -56,7 +58,8 @@ pub(crate) fn foreseen(
         Try::Split(u, v) => Ok(split_seen(store, u, v, near, once)),
         Try::Shift(u, way) => shift_seen(alloc, store, u, way, near, once),
         Try::Collapse(u, v) => collapse_seen(alloc, store, u, v, near, once),
-        Try::FaceSwap(..) | Try::EdgeSwap(..) => Ok(Sight::Unseen),
+        Try::FaceSwap(a, b, c) => face_swap_seen(alloc, store, a, b, c, near, once),
+        Try::EdgeSwap(..) => Ok(Sight::Unseen),
     }
 }
 
@@ -119,6 +122,41 @@ fn collapse_seen(
     }
 }
 
+fn face_swap_seen(
+    alloc: Global,
+    store: &Store,
+    a: u32,
+    b: u32,
+    c: u32,
+    near: &[u32],
+    once: bool,
+) -> Result<Sight, Memory>
+    requires sound { IsSound store.now.side store.now.parts }
+    requires positive { AllPositive (mesh_in store.now.parts) }
+    requires near { near.now ≡ numbers_of (may_go (Try.FaceSwap a b c)) 0 store.now.parts.slots }
+    requires once { IsTrue once → NoFaceTwice (mesh_in store.now.parts) }
+    ensures { (triangles : List Tri) (e : ℕ) → IfOk result (IsSight (setting triangles e store.now.side) (mesh_in store.now.parts) (Try.FaceSwap a b c)) }
+{
+    let slots = store.slots();
+    let Some(sides) = sides_of_face(slots, near, a, b, c) else {
+        return Ok(Sight::Unseen);
+    };
+    if !has_room_for_three(slots) {
+        return Ok(Sight::Unseen);
+    }
+    if !are_three_positive(slots, slots.tet(sides.first), a, b, c, sides.apex) {
+        return Ok(Sight::Refused(Why::Inverted));
+    }
+    if !once {
+        return Ok(Sight::Unseen);
+    }
+    if is_seen_worse(alloc, slots, sides, a, b, c)? {
+        Ok(Sight::Refused(Why::Worse))
+    } else {
+        Ok(Sight::Unseen)
+    }
+}
+
 /// What is seen of a try whose new corners are at this point. `single` says that no oriented face of its
 /// new tetrahedra would occur twice.
 fn seen(store: &Store, attempt: Try, near: &[u32], at: Point, single: bool) -> Sight
@@ -144,6 +182,13 @@ fn seen(store: &Store, attempt: Try, near: &[u32], at: Point, single: bool) -> S
     } else {
         Sight::Refused(Why::Worse)
     }
+}
+
+/// Whether three tetrahedra more pass no limit.
+fn has_room_for_three(slots: &Slots) -> bool
+    ensures { IsTrue result → length slots.now.slots + 3 ≤ most_made }
+{
+    slots.made() as u64 + 3 <= MOST_MADE
 }
 
 /// Whether one point more, and two tetrahedra for each of these slots, pass no limit.

@@ -17,8 +17,10 @@ mod sides;
 mod single;
 mod smoothing;
 mod surface;
+mod swapping;
 #[cfg(test)]
 mod tests;
+mod worsening;
 
 pub use attempts::{attempt, attempt_on_once};
 pub use candidates::is_candidate;

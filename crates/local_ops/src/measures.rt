@@ -26,7 +26,8 @@ pub(crate) fn all_positive(slots: &Slots, first: u32) -> bool
     true
 }
 
-fn is_positive(slots: &Slots, tet: Tet) -> bool
+/// Whether the tetrahedron is positive.
+pub(crate) fn is_positive(slots: &Slots, tet: Tet) -> bool
     requires in_box { All (IsInBox (2 ^ 18)) slots.now.points }
     requires there { IsTet (length slots.now.points) tet.0 }
     ensures { result ≡ is_positive slots.now.points tet.0 }
@@ -94,7 +95,8 @@ pub(crate) fn largest_at(slots: &Slots, numbers: &[u32]) -> u128
     most
 }
 
-fn energy_of(slots: &Slots, tet: Tet) -> u128
+/// The energy of a positive tetrahedron.
+pub(crate) fn energy_of(slots: &Slots, tet: Tet) -> u128
     requires in_box { All (IsInBox (2 ^ 18)) slots.now.points }
     requires there { IsTet (length slots.now.points) tet.0 }
     requires positive { IsPositive slots.now.points tet.0 }

@@ -94,7 +94,7 @@ pub(crate) fn count_in(face: Face, tet: Tet) -> u64
 }
 
 /// Whether the tetrahedron has all corners of the face.
-fn has_corners(tet: Tet, face: Face) -> bool
+pub(crate) fn has_corners(tet: Tet, face: Face) -> bool
     ensures { result ≡ list_all (has tet.0) face.0 }
 {
     let Face([a, b, c]) = face;
@@ -107,7 +107,8 @@ fn has_corners(tet: Tet, face: Face) -> bool
     tet.has(c)
 }
 
-fn count_faces(face: Face, tet: Tet) -> u64
+/// The same, for a tetrahedron that is likely to have all corners of the face.
+pub(crate) fn count_faces(face: Face, tet: Tet) -> u64
     ensures count { result ≡ count_by (is_rotation face.0) (faces tet.0) }
     ensures few { result ≤ 4 }
 {

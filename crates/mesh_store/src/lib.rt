@@ -14,3 +14,4 @@ mod undoing;
 
 pub use issue::StoreIssue;
 pub use store::Store;
+pub use swapping::{first_across, first_at_face, outside_corner};

@@ -8,3 +8,6 @@ returns-in-Shift c = rw c.in-Shift.is c.shift_seen.ensures
 
 pub returns-in-Collapse : goal.returns-in-Collapse
 returns-in-Collapse c = rw c.in-Collapse.is c.collapse_seen.ensures
+
+pub returns-in-FaceSwap : goal.returns-in-FaceSwap
+returns-in-FaceSwap c = rw c.in-FaceSwap.is c.face_swap_seen.ensures

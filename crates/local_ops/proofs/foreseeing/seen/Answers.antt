@@ -1,4 +1,4 @@
-use Rattle.std.proofs.Common.{◌≡◌, ◌∙◌, ◌<◌, ◌+◌, ◌*◌, ◌≤◌, true, List, All, length, map, ap, refl, sym, subst, arith}
+use Rattle.std.proofs.Common.{◌≡◌, ◌∙◌, ◌<◌, ◌+◌, ◌*◌, ◌≤◌, List, All, length, map, ap, refl, sym, subst, arith}
 use Rattle.std.specs.List.{list_all}
 use Rattle.grid.specs.declared.shapes.Point.{Point}
 use Rattle.grid.specs.Determinants.{IsPositive}

@@ -1,4 +1,4 @@
-use Rattle.std.proofs.Common.{◌∙◌, sym, arith, rules, SFits, to_z-of_z}
+use Rattle.std.proofs.Common.{◌∙◌, sym, rules, SFits, to_z-of_z}
 use mir.Syntax.{w128}
 use Rattle.grid.specs.Determinants.{det}
 use Rattle.local_ops.proofs.Moved.{det_with-four}

@@ -1,5 +1,4 @@
-use Rattle.std.proofs.Common.{◌≡◌, ◌∙◌, ap, subst}
-use Rattle.grid.specs.Views.{triples_of}
+use Rattle.std.proofs.Common.{◌≡◌, ◌∙◌, ap}
 use Rattle.tracked.specs.Keys.{Keys, faces_at}
 use Rattle.mesh_store.proofs.FaceSearches.{at-corner-is}
 use Rattle.local_ops.proofs.surface.faces_at.Goals as goal
