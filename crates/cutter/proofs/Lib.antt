@@ -1,4 +1,5 @@
 pub mod Meeting
 pub mod Near
+pub mod TouchedSlots
 pub mod FirstSlots
 pub mod SectionPlaces

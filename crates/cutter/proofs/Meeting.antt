@@ -1,41 +1,65 @@
--- Tetrahedra of slots whose bounding boxes meet a triangle's.
-use Rattle.std.proofs.Common.{◌≡◌, ℤ, Bool, true, false, ◌&&◌, int_le, List, map, refl, sym, ◌∙◌}
+-- Tetrahedra of slots that meet a box about a triangle and touch its plane.
+use Rattle.std.proofs.Common.{◌≡◌, ℤ, ◌≤ℤ◌, Bool, true, false, ◌&&◌, ◌||◌, int_le, List, [], ◌∷◌, map, refl, sym, ap, ap₂, ◌∙◌, arith}
+use Rattle.std.specs.List.{list_any}
+use Rattle.std.proofs.lemmas.Int.{ints}
 use Rattle.grid.specs.declared.shapes.Point.{Point}
-use Rattle.mesh_types.specs.CuttingRule.{boxes_meet, ranges_meet}
+use Rattle.grid.specs.declared.shapes.Tri.{Tri}
 use Rattle.mesh_types.specs.Phases.{points_of}
 use Rattle.tet_slots.specs.declared.slot.Slot.{Slot}
 use Rattle.tet_slots.specs.Searches.{overlaps, meets, meets_box}
-use Rattle.cutting_rule.specs.Bounds.{AreEnds, AreBounds}
-use Rattle.cutting_rule.proofs.Meeting.{ends-rise, range-met}
+use Rattle.cutting_rule.specs.Bounds.{overlaps as overlap_along, is_met}
+use Rattle.cutting_rule.specs.Touching.{touches, IsReach}
+use Rattle.cutter.specs.Found.{is_touching}
+
+any-map : {X Y : Type 0} (test : Y → Bool) (f : X → Y) (xs : List X) → list_any test (map f xs) ≡ list_any (λ x. test (f x)) xs
+any-map test f [] = refl
+any-map test f (x ∷ xs) = ap (λ (b : Bool). test (f x) || b) (any-map test f xs)
+
+le-true : (a b : ℤ) → a ≤ℤ b → int_le a b ≡ true
+le-true a b h = grind (arith, ints)
 
 true-and : (p q : Bool) → p ≡ true → (p && q) ≡ q
 true-and true q e = refl
 true-and false q e = cc
 
-range-overlapped : (lo hi : ℤ) (ws vs : List ℤ) → AreEnds lo hi ws → overlaps lo hi vs ≡ ranges_meet vs ws
+range-met : (f : Point → ℤ) (lo hi : ℤ) (ps : List Point) → lo ≤ℤ hi → overlaps lo hi (map f ps) ≡ overlap_along f lo hi ps
 unfolding overlaps
-range-overlapped lo hi ws vs h = true-and (int_le lo hi) _ (ends-rise lo hi ws h) ∙ range-met lo hi ws vs h
+range-met f lo hi ps h =
+    true-and (int_le lo hi) _ (le-true lo hi h)
+    ∙ ap₂ (λ (a b : Bool). a && b) (any-map (λ v. int_le v hi) f ps) (any-map (λ v. int_le lo v) f ps)
 
-pub meets_box-boxes : (lo hi : Point) (qs ps : List Point) → AreBounds lo hi qs → meets_box lo hi ps ≡ boxes_meet ps qs
-unfolding meets_box boxes_meet
-meets_box-boxes lo hi qs ps h = λ i.
-    (range-overlapped lo.x hi.x (map (λ p. p.x) qs) (map (λ p. p.x) ps) h.x_ends i)
-    && (range-overlapped lo.y hi.y (map (λ p. p.y) qs) (map (λ p. p.y) ps) h.y_ends i)
-    && (range-overlapped lo.z hi.z (map (λ p. p.z) qs) (map (λ p. p.z) ps) h.z_ends i)
+-- the box is met in both senses
+pub box-met : (t : Tri) (lo hi : Point) (ps : List Point) → IsReach t lo hi → meets_box lo hi ps ≡ is_met lo hi ps
+unfolding meets_box
+box-met t lo hi ps h = λ i.
+    (range-met (λ p. p.x) lo.x hi.x ps h.x_ordered i)
+    && (range-met (λ p. p.y) lo.y hi.y ps h.y_ordered i)
+    && (range-met (λ p. p.z) lo.z hi.z ps h.z_ordered i)
+
+-- of the slots that a search of the box finds, those that touch the plane
+pub touching-met : (points : List Point) (t : Tri) (lo hi : Point) (s : Slot) → IsReach t lo hi → is_touching points t lo hi s ≡ (touches t (points_of points s.tet.0) && meets points lo hi s)
+touching-met points t lo hi s h =
+    move s.live (is_met lo hi (points_of points s.tet.0)) (touches t (points_of points s.tet.0))
+    ∙ ap (λ (b : Bool). touches t (points_of points s.tet.0) && (s.live && b)) (sym (box-met t lo hi (points_of points s.tet.0) h))
+  where
+    move : (a b c : Bool) → (a && (b && c)) ≡ (c && (a && b))
+    move true true true = refl
+    move true true false = refl
+    move true false true = refl
+    move true false false = refl
+    move false b true = refl
+    move false b false = refl
 
 and_left : (p q : Bool) → (p && q) ≡ true → p ≡ true
 and_left true q e = refl
 and_left false q e = e
 
-pub live-meets : (points : List Point) (lo hi : Point) (s : Slot) → meets points lo hi s ≡ true → s.live ≡ true
-live-meets points lo hi s m = and_left s.live (meets_box lo hi (points_of points s.tet.0)) m
+pub live-touching : (points : List Point) (t : Tri) (lo hi : Point) (s : Slot) → is_touching points t lo hi s ≡ true → s.live ≡ true
+live-touching points t lo hi s m = and_left s.live _ m
 
-pub not-met : (points : List Point) (lo hi : Point) (s : Slot) → s.live ≡ true → meets points lo hi s ≡ false → meets_box lo hi (points_of points s.tet.0) ≡ false
-not-met points lo hi s live m = at s.live (meets_box lo hi (points_of points s.tet.0)) live m
+pub not-touching : (points : List Point) (t : Tri) (lo hi : Point) (s : Slot) → s.live ≡ true → is_touching points t lo hi s ≡ false → (is_met lo hi (points_of points s.tet.0) && touches t (points_of points s.tet.0)) ≡ false
+not-touching points t lo hi s live m = at s.live _ live m
   where
     at : (p q : Bool) → p ≡ true → (p && q) ≡ false → q ≡ false
     at true q e f = f
     at false q e f = cc
-
-pub not-meeting : (points qs : List Point) (lo hi : Point) (s : Slot) → AreBounds lo hi qs → s.live ≡ true → meets points lo hi s ≡ false → boxes_meet (points_of points s.tet.0) qs ≡ false
-not-meeting points qs lo hi s h live m = sym (meets_box-boxes lo hi qs (points_of points s.tet.0) h) ∙ not-met points lo hi s live m

@@ -47,7 +47,8 @@ found p slots k (s ∷ ss) h long = elim (cases_Bool (p s)) [
   | inr e ↦ rw e (found p slots (suc k) ss (rest slots k s ss h) (omega arith))
 ]
 
-found-all : (p : Slot → Bool) (slots : List Slot) → Each (Passes p slots) (numbers_of p 0 slots)
+-- all that are found
+pub found-all : (p : Slot → Bool) (slots : List Slot) → Each (Passes p slots) (numbers_of p 0 slots)
 found-all p slots = found p slots 0 slots (all slots) (omega arith)
 
 pub passes-at : (p : Slot → Bool) (slots : List Slot) (ns : List ℕ) → ns ≡ numbers_of p 0 slots → (i d : ℕ) → i < length ns → Passes p slots (get_or ns i d)

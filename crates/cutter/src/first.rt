@@ -1,5 +1,5 @@
 // The first tetrahedron with a wanted edge.
-ghost use Rattle.cutter.specs.Found.{AreNear};
+ghost use Rattle.cutter.specs.Found.{AreTouching};
 ghost use Rattle.cutter.specs.First.{IsFirstSlot, IsFirstWanted, earlier, has_one_of, head, is_open};
 ghost use Rattle.cutting_rule.specs.Edges.{numbers_of};
 ghost use Rattle.grid.specs.Boxes.{IsTriInBox};
@@ -8,7 +8,8 @@ ghost use Rattle.mesh_store.specs.Parts.{mesh_in};
 ghost use Rattle.mesh_types.specs.Phases.{wanted};
 ghost use Rattle.std.specs.Prelude.{IfOk, [], ◌<◌, ◌^◌, ◌∷◌, ◌≡◌};
 
-use crate::wanted::{corner_points, near_slots, near_wanted};
+use crate::touching::{Touching, find_touching};
+use crate::wanted::{corner_points, near_wanted};
 use cutting_rule::{CuttingTriangle, Edge};
 use grid::{Memory, Point, Tri};
 use mesh_store::Store;
@@ -57,17 +58,16 @@ fn first_of_all(alloc: Global, slots: &Slots, edges: &[Edge]) -> Result<Option<u
     Ok(first)
 }
 
-/// The first live slot that has an edge which phase i wants, where `near` are the slots near the
-/// triangle.
+/// The first live slot that has an edge which phase i wants.
 fn first_of_phase(
     alloc: Global,
     store: &Store,
     triangle: &CuttingTriangle,
     i: u32,
-    near: &[u32],
+    near: &Touching,
 ) -> Result<Option<u32>, Memory>
     requires index { i < 4 }
-    requires near { AreNear store.now.parts.points store.now.parts.slots triangle.now near.now }
+    requires near { AreTouching store.now.parts.points store.now.parts.slots triangle.now near.now.reach.lo near.now.reach.hi near.now.slots.items }
     ensures { IfOk result (λ found. IsFirstSlot (has_one_of (wanted (mesh_in store.now.parts) triangle.now i)) store.now.parts.slots found) }
 {
     let slots = store.slots();
@@ -81,14 +81,15 @@ fn first_slot(
     alloc: Global,
     store: &Store,
     triangle: &CuttingTriangle,
+    near: &Touching,
 ) -> Result<Option<u32>, Memory>
+    requires near { AreTouching store.now.parts.points store.now.parts.slots triangle.now near.now.reach.lo near.now.reach.hi near.now.slots.items }
     ensures { IfOk result (λ found. IsFirstSlot (is_open (mesh_in store.now.parts) triangle.now) store.now.parts.slots found) }
 {
-    let near = near_slots(alloc, triangle, store.slots())?;
-    let a = first_of_phase(alloc, store, triangle, 0, &near)?;
-    let b = first_of_phase(alloc, store, triangle, 1, &near)?;
-    let c = first_of_phase(alloc, store, triangle, 2, &near)?;
-    let d = first_of_phase(alloc, store, triangle, 3, &near)?;
+    let a = first_of_phase(alloc, store, triangle, 0, near)?;
+    let b = first_of_phase(alloc, store, triangle, 1, near)?;
+    let c = first_of_phase(alloc, store, triangle, 2, near)?;
+    let d = first_of_phase(alloc, store, triangle, 3, near)?;
     let later = earlier(c, d);
     let after_first = earlier(b, later);
     Ok(earlier(a, after_first))
@@ -102,7 +103,22 @@ pub fn first_wanted(alloc: Global, store: &Store, tri: &Tri) -> Result<Option<[P
     ensures { IfOk result (λ found. IsFirstWanted (mesh_in store.now.parts) tri.now found) }
 {
     let triangle = CuttingTriangle::new(tri);
-    match first_slot(alloc, store, &triangle)? {
+    let near = find_touching(alloc, &triangle, store.slots())?;
+    let found = first_wanted_among(alloc, store, &triangle, &near)?;
+    Ok(found)
+}
+
+/// The same, where the tetrahedra that the triangle touches are known.
+pub fn first_wanted_among(
+    alloc: Global,
+    store: &Store,
+    triangle: &CuttingTriangle,
+    near: &Touching,
+) -> Result<Option<[Point; 4]>, Memory>
+    requires near { AreTouching store.now.parts.points store.now.parts.slots triangle.now near.now.reach.lo near.now.reach.hi near.now.slots.items }
+    ensures { IfOk result (λ found. IsFirstWanted (mesh_in store.now.parts) triangle.now found) }
+{
+    match first_slot(alloc, store, triangle, near)? {
         None => Ok(None),
         Some(slot) => {
             let slots = store.slots();

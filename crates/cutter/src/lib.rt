@@ -5,9 +5,11 @@
 mod first;
 mod phases;
 mod sections;
+mod touching;
 mod wanted;
 
-pub use first::first_wanted;
-pub use phases::phase;
-pub use sections::section;
+pub use first::{first_wanted, first_wanted_among};
+pub use phases::{phase, phase_among};
+pub use sections::{section, section_among};
+pub use touching::{Touched, Touching, find_touching};
 pub use wanted::corner_points;

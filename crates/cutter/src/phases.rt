@@ -1,4 +1,5 @@
 // The phases of an insertion.
+ghost use Rattle.cutter.specs.Found.{AreTouching};
 ghost use Rattle.cutting_rule.specs.Edges.{IsSplitEdge, numbers_of};
 ghost use Rattle.grid.specs.Boxes.{IsInBox, IsTriInBox};
 ghost use Rattle.grid.specs.Determinants.{point_at};
@@ -11,7 +12,8 @@ ghost use Rattle.mesh_types.specs.CuttingRule.{splits};
 ghost use Rattle.mesh_types.specs.Phases.{cut_at, phase, wanted_cuts};
 ghost use Rattle.std.specs.Prelude.{All, Err, IfOk, IsSome, OnErr, OnOk, [], length, map, true, ◌+◌, ◌<◌, ◌^◌, ◌∷◌, ◌≡◌};
 
-use crate::wanted::wanted_edges;
+use crate::touching::{Touching, find_touching, touching_after};
+use crate::wanted::near_wanted;
 use cutting_rule::{CuttingTriangle, Edge, cut_between, sort_edges_once};
 use grid::{Memory, Tri};
 use mesh_store::{Store, StoreIssue};
@@ -43,18 +45,60 @@ fn cuts_of(alloc: Global, plane: &Plane, slots: &Slots, edges: &[Edge]) -> Resul
     Ok(cuts)
 }
 
-fn wanted_cuts(alloc: Global, store: &Store, tri: &Tri, i: u32) -> Result<Vec<Cut>, Memory>
-    requires tri_in { IsTriInBox (2 ^ 18) tri.now }
-    requires some_area { ¬ IsDegenerate tri.now }
+fn wanted_cuts(
+    alloc: Global,
+    store: &Store,
+    triangle: &CuttingTriangle,
+    i: u32,
+    near: &Touching,
+) -> Result<Vec<Cut>, Memory>
     requires index { i < 4 }
-    ensures cuts { IfOk result (λ v. v.items ≡ wanted_cuts (mesh_in store.now.parts) tri.now i) }
+    requires near { AreTouching store.now.parts.points store.now.parts.slots triangle.now near.now.reach.lo near.now.reach.hi near.now.slots.items }
+    ensures cuts { IfOk result (λ v. v.items ≡ wanted_cuts (mesh_in store.now.parts) triangle.now i) }
     ensures sound { IsSound store.now.side store.now.parts }
 {
-    let triangle = CuttingTriangle::new(tri);
     let slots = store.slots();
-    let mut edges = wanted_edges(alloc, &triangle, i, slots)?;
+    let mut edges = near_wanted(alloc, triangle, i, slots, near)?;
     sort_edges_once(&mut edges);
     cuts_of(alloc, triangle.phase_plane(i), slots, &edges)
+}
+
+/// Gives back the mesh at begin after want of memory.
+fn back_without_memory(store: &mut Store) -> StoreIssue
+    requires { IsSome store.old.at_begin }
+    ensures issue { result ≡ StoreIssue.Memory }
+    ensures back { store.new ≡ rolled_back store.old }
+{
+    store.rollback();
+    StoreIssue::Memory
+}
+
+/// Cuts the edges that a phase wants, and answers how many there were.
+fn cut_wanted(
+    alloc: Global,
+    store: &mut Store,
+    triangle: &CuttingTriangle,
+    i: u32,
+    near: &Touching,
+) -> Result<u32, StoreIssue>
+    requires open { IsSome store.old.at_begin }
+    requires index { i < 4 }
+    requires near { AreTouching store.old.parts.points store.old.parts.slots triangle.now near.now.reach.lo near.now.reach.hi near.now.slots.items }
+    ensures mesh { OnOk result (mesh_in store.new.parts ≡ phase (mesh_in store.old.parts) triangle.now i) }
+    ensures count { IfOk result (λ k. length store.old.parts.points + k ≡ length store.new.parts.points) }
+    ensures grown { OnOk result (IsGrown store.old.parts store.new.parts) }
+    ensures goes_on { OnOk result (IsSameTransaction store.old store.new) }
+    ensures within { OnOk result (IsWithinLimits (mesh_in store.new.parts)) }
+    ensures full { result ≡ Err StoreIssue.Full → ¬ IsWithinLimits (phase (mesh_in store.old.parts) triangle.now i) }
+    ensures err { OnErr result (store.new ≡ rolled_back store.old) }
+{
+    match wanted_cuts(alloc, store, triangle, i, near) {
+        Ok(cuts) => {
+            store.refine(&cuts)?;
+            Ok(cuts.len() as u32)
+        }
+        Err(Memory) => Err(back_without_memory(store)),
+    }
 }
 
 /// Cuts the edges that phase i of the insertion of a triangle wants, in rising order, and answers how
@@ -75,14 +119,48 @@ pub fn phase(alloc: Global, store: &mut Store, tri: &Tri, i: u32) -> Result<u32,
     ensures full { result ≡ Err StoreIssue.Full → ¬ IsWithinLimits (phase (mesh_in store.old.parts) tri.now i) }
     ensures err { OnErr result (store.new ≡ rolled_back store.old) }
 {
-    match wanted_cuts(alloc, store, tri, i) {
-        Ok(cuts) => {
-            store.refine(&cuts)?;
-            Ok(cuts.len() as u32)
+    let triangle = CuttingTriangle::new(tri);
+    match find_touching(alloc, &triangle, store.slots()) {
+        Ok(near) => cut_wanted(alloc, store, &triangle, i, &near),
+        Err(Memory) => Err(back_without_memory(store)),
+    }
+}
+
+/// The same, where the tetrahedra that the triangle touches are known; then they are known of the new
+/// mesh too.
+pub fn phase_among(
+    alloc: Global,
+    store: &mut Store,
+    triangle: &CuttingTriangle,
+    i: u32,
+    near: &mut Touching,
+) -> Result<u32, StoreIssue>
+    requires open { IsSome store.old.at_begin }
+    requires index { i < 4 }
+    requires near { AreTouching store.old.parts.points store.old.parts.slots triangle.now near.old.reach.lo near.old.reach.hi near.old.slots.items }
+    ensures mesh { OnOk result (mesh_in store.new.parts ≡ phase (mesh_in store.old.parts) triangle.now i) }
+    ensures count { IfOk result (λ k. length store.old.parts.points + k ≡ length store.new.parts.points) }
+    ensures grown { OnOk result (IsGrown store.old.parts store.new.parts) }
+    ensures goes_on { OnOk result (IsSameTransaction store.old store.new) }
+    ensures within { OnOk result (IsWithinLimits (mesh_in store.new.parts)) }
+    ensures near { OnOk result (AreTouching store.new.parts.points store.new.parts.slots triangle.now near.new.reach.lo near.new.reach.hi near.new.slots.items) }
+    ensures full { result ≡ Err StoreIssue.Full → ¬ IsWithinLimits (phase (mesh_in store.old.parts) triangle.now i) }
+    ensures err { OnErr result (store.new ≡ rolled_back store.old) }
+{
+    let first = store.slots().made();
+    let count = cut_wanted(alloc, store, triangle, i, near)?;
+    match touching_after(
+        alloc,
+        triangle,
+        near.reach,
+        &near.slots,
+        store.slots(),
+        first,
+    ) {
+        Ok(slots) => {
+            near.slots = slots;
+            Ok(count)
         }
-        Err(Memory) => {
-            store.rollback();
-            Err(StoreIssue::Memory)
-        }
+        Err(Memory) => Err(back_without_memory(store)),
     }
 }

@@ -1,4 +1,5 @@
 // The faces of a triangle's section.
+ghost use Rattle.cutter.specs.Found.{AreTouching};
 ghost use Rattle.cutting_rule.specs.Section.{section_in};
 ghost use Rattle.grid.specs.Boxes.{IsInBox, IsTriInBox};
 ghost use Rattle.grid.specs.Planes.{IsDegenerate};
@@ -8,6 +9,7 @@ ghost use Rattle.mesh_types.specs.Phases.{section};
 ghost use Rattle.std.specs.List.{flat_map};
 ghost use Rattle.std.specs.Prelude.{All, IfOk, ◌^◌, ◌≡◌};
 
+use crate::touching::{Touching, find_touching};
 use crate::wanted::corner_points;
 use cutting_rule::{CuttingTriangle, push_section, sort_faces_once};
 use grid::{Face, Memory, Tri};
@@ -15,22 +17,21 @@ use mesh_store::Store;
 use std::alloc::Global;
 use tet_slots::Slots;
 
-/// The section faces of all live tetrahedra, as rising triples: those of the tetrahedra whose bounding
-/// boxes meet the section's.
+/// The section faces of all live tetrahedra, as rising triples: those of the tetrahedra that the triangle
+/// touches.
 fn section_faces(
     alloc: Global,
     triangle: &CuttingTriangle,
     slots: &Slots,
+    near: &Touching,
 ) -> Result<Vec<Face>, Memory>
-    requires { All (IsInBox (2 ^ 18)) slots.now.points }
+    requires in_box { All (IsInBox (2 ^ 18)) slots.now.points }
+    requires near { AreTouching slots.now.points slots.now.slots triangle.now near.now.reach.lo near.now.reach.hi near.now.slots.items }
     ensures { IfOk result (λ v. triples_of v.items ≡ flat_map (section_in slots.now.points triangle.now) (live_tets slots.now.slots)) }
 {
-    let bounds = triangle.section_bounds();
-    let mut near = Vec::new(alloc);
-    slots.meeting(bounds.lo, bounds.hi, &mut near)?;
     let mut faces = Vec::new(alloc);
-    for slot in &near {
-        let tet = slots.tet(*slot);
+    for touched in &near.slots {
+        let tet = slots.tet(touched.slot);
         let corners = corner_points(slots, tet);
         push_section(triangle, tet, &corners, &mut faces)?;
     }
@@ -45,7 +46,22 @@ pub fn section(alloc: Global, store: &Store, tri: &Tri) -> Result<Vec<Face>, Mem
     ensures { IfOk result (λ v. triples_of v.items ≡ section (mesh_in store.now.parts) tri.now) }
 {
     let triangle = CuttingTriangle::new(tri);
-    let mut faces = section_faces(alloc, &triangle, store.slots())?;
+    let near = find_touching(alloc, &triangle, store.slots())?;
+    let faces = section_among(alloc, store, &triangle, &near)?;
+    Ok(faces)
+}
+
+/// The same, where the tetrahedra that the triangle touches are known.
+pub fn section_among(
+    alloc: Global,
+    store: &Store,
+    triangle: &CuttingTriangle,
+    near: &Touching,
+) -> Result<Vec<Face>, Memory>
+    requires near { AreTouching store.now.parts.points store.now.parts.slots triangle.now near.now.reach.lo near.now.reach.hi near.now.slots.items }
+    ensures { IfOk result (λ v. triples_of v.items ≡ section (mesh_in store.now.parts) triangle.now) }
+{
+    let mut faces = section_faces(alloc, triangle, store.slots(), near)?;
     sort_faces_once(&mut faces);
     Ok(faces)
 }

@@ -1,14 +1,16 @@
 // The edges that a phase wants.
-ghost use Rattle.cutter.specs.Found.{AreNear};
+ghost use Rattle.cutter.specs.Found.{AreTouching, touched_at};
 ghost use Rattle.cutting_rule.specs.Edges.{numbers_of};
 ghost use Rattle.grid.specs.Boxes.{IsInBox};
 ghost use Rattle.grid.specs.Simplices.{IsTet};
 ghost use Rattle.mesh_store.specs.Parts.{live_tets};
 ghost use Rattle.mesh_types.specs.Phases.{points_of, wanted_in};
+ghost use Rattle.tet_slots.specs.Slots.{slot_at};
 ghost use Rattle.std.specs.List.{flat_map};
-ghost use Rattle.std.specs.Prelude.{All, IfOk, length, ◌<◌, ◌^◌, ◌≡◌};
+ghost use Rattle.std.specs.Prelude.{All, IfOk, OnOk, length, ◌++◌, ◌<◌, ◌^◌, ◌≡◌};
 
-use cutting_rule::{CuttingTriangle, Edge, push_wanted};
+use crate::touching::{Touched, Touching};
+use cutting_rule::{CuttingTriangle, Edge, push_wanted_of};
 use grid::{Memory, Point, Tet};
 use std::alloc::Global;
 use tet_slots::Slots;
@@ -27,55 +29,46 @@ pub fn corner_points(slots: &Slots, tet: Tet) -> [Point; 4]
     ]
 }
 
-/// The live slots whose bounding boxes meet the triangle's, in rising order.
-pub(crate) fn near_slots(
-    alloc: Global,
-    triangle: &CuttingTriangle,
-    slots: &Slots,
-) -> Result<Vec<u32>, Memory>
-    ensures { IfOk result (λ v. AreNear slots.now.points slots.now.slots triangle.now v.items) }
-{
-    let bounds = triangle.bounds();
-    let mut near = Vec::new(alloc);
-    slots.meeting(bounds.lo, bounds.hi, &mut near)?;
-    Ok(near)
-}
-
 /// The edges of all live tetrahedra that a phase wants, in the order of the tetrahedra: those of the
-/// tetrahedra whose bounding boxes meet the triangle's, which are in the slots `near`.
+/// tetrahedra that the triangle touches.
 pub(crate) fn near_wanted(
     alloc: Global,
     triangle: &CuttingTriangle,
     i: u32,
     slots: &Slots,
-    near: &[u32],
+    near: &Touching,
 ) -> Result<Vec<Edge>, Memory>
     requires index { i < 4 }
     requires in_box { All (IsInBox (2 ^ 18)) slots.now.points }
-    requires near { AreNear slots.now.points slots.now.slots triangle.now near.now }
+    requires near { AreTouching slots.now.points slots.now.slots triangle.now near.now.reach.lo near.now.reach.hi near.now.slots.items }
     ensures { IfOk result (λ v. numbers_of v.items ≡ flat_map (wanted_in slots.now.points triangle.now i) (live_tets slots.now.slots)) }
 {
     let mut edges = Vec::new(alloc);
-    for slot in near {
-        let tet = slots.tet(*slot);
-        let corners = corner_points(slots, tet);
-        push_wanted(triangle, i, tet, &corners, &mut edges)?;
+    for touched in &near.slots {
+        push_wanted_at(triangle, i, slots, *touched, &mut edges)?;
     }
     Ok(edges)
 }
 
-/// The edges of all live tetrahedra that a phase wants, in the order of the tetrahedra.
-pub(crate) fn wanted_edges(
-    alloc: Global,
+/// Adds the edges of a touched tetrahedron that a phase wants.
+fn push_wanted_at(
     triangle: &CuttingTriangle,
     i: u32,
     slots: &Slots,
-) -> Result<Vec<Edge>, Memory>
+    touched: Touched,
+    into: &mut Vec<Edge>,
+) -> Result<(), Memory>
     requires index { i < 4 }
     requires in_box { All (IsInBox (2 ^ 18)) slots.now.points }
-    ensures { IfOk result (λ v. numbers_of v.items ≡ flat_map (wanted_in slots.now.points triangle.now i) (live_tets slots.now.slots)) }
+    requires there { touched.slot < length slots.now.slots }
+    requires touched { touched ≡ touched_at slots.now.points slots.now.slots triangle.now touched.slot }
+    ensures { OnOk result (numbers_of into.new.items ≡ numbers_of into.old.items ++ wanted_in slots.now.points triangle.now i (slot_at slots.now.slots touched.slot).tet.0) }
 {
-    let near = near_slots(alloc, triangle, slots)?;
-    let edges = near_wanted(alloc, triangle, i, slots, &near)?;
-    Ok(edges)
+    if !touched.phases[i as usize] {
+        return Ok(());
+    }
+    let tet = slots.tet(touched.slot);
+    let corners = corner_points(slots, tet);
+    push_wanted_of(triangle, i, tet, &corners, into)?;
+    Ok(())
 }

@@ -14,6 +14,8 @@ mod LongestAxes
 mod Coordinates
 mod SectionBox
 mod Spreads
+mod Reaches
+pub mod Untouched
 pub mod Untils
 pub mod Naming
 pub mod SectionTriples

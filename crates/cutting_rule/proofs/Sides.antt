@@ -20,7 +20,7 @@ on-sign s = same_bools _ _ (λ e. to s ((Decides-int_eq s (pos 0)).0 e)) (λ e. 
     from : (s : ℤ) → (not (lt_z s (pos 0)) && not (lt_z (pos 0) s)) ≡ true → s ≡ pos 0
     from s e = grind (arith, ints)
 
-on-sides : (m : Plane) (p : Point) → lies_on m p ≡ (not (lies_below m p) && not (lies_above m p))
+pub on-sides : (m : Plane) (p : Point) → lies_on m p ≡ (not (lies_below m p) && not (lies_above m p))
 unfolding lies_on lies_below lies_above
 on-sides m p = on-sign (snap_sign m p)
 

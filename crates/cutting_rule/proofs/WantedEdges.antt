@@ -42,7 +42,7 @@ sign-above m p = from _ (value_of m p)
     from true (negsuc n) e = cc
     from false v e = cc
 
-not-both : (m : Plane) (p : Point) → lies_below m p ≡ true → lies_above m p ≡ true → ⊥
+pub not-both : (m : Plane) (p : Point) → lies_below m p ≡ true → lies_above m p ≡ true → ⊥
 not-both m p b a = let e : negsuc 0 ≡ pos 1 = sym (sign-below m p b) ∙ sign-above m p a in cc
 
 pub opposite : (m : Plane) (p q : Point) → splits m (p ∷ q ∷ []) ≡ true → HaveOppositeSigns m p q
@@ -84,7 +84,7 @@ pair_in x a b ia ib = elim (cases_Bool (nat_lt b a)) [
   | inr e ↦ rw e (both_in x a b ia ib)
 ]
 
-edges_in : (x : List ℕ) → Each (AreIn x) (edges x)
+pub edges_in : (x : List ℕ) → Each (AreIn x) (edges x)
 edges_in (a ∷ b ∷ c ∷ d ∷ []) =
     let x = a ∷ b ∷ c ∷ d ∷ [] in
     let ia : In x a = at_first a (b ∷ c ∷ d ∷ []) in
@@ -146,7 +146,7 @@ unwanted points t zero x e h among = false-and _ _ (false-and2 _ _ _ h)
 unwanted points t (suc i) x e h among =
     false-and3 _ _ _ _ (false_from_ne_true (boxes_meet (points_of points e) t.0) (λ a. true≢false (sym (boxes-more points t.0 x e among a) ∙ h)))
 
-filter-none : (test : List ℕ → Bool) (P : List ℕ → Type 0) → ((e : List ℕ) → P e → test e ≡ false) → (es : List (List ℕ)) → Each P es → filter test es ≡ []
+pub filter-none : (test : List ℕ → Bool) (P : List ℕ → Type 0) → ((e : List ℕ) → P e → test e ≡ false) → (es : List (List ℕ)) → Each P es → filter test es ≡ []
 filter-none test P f [] h = refl
 filter-none test P f (e ∷ es) h = rw (f e h.0) (filter-none test P f es h.1)
 
@@ -160,7 +160,7 @@ unfolding wanted_in is_wanted
 uncrossed-none points t x h = filter-none _ (AreIn x) (λ e among. false-and _ _ h) (edges x) (edges_in x)
 
 -- a later phase wants none of a tetrahedron that has no corner on the triangle's plane, or that its plane does not split
-any-points : (points : List Point) (test : Point → Bool) (x e : List ℕ) → AreIn x e → list_any test (points_of points e) ≡ true → list_any test (points_of points x) ≡ true
+pub any-points : (points : List Point) (test : Point → Bool) (x e : List ℕ) → AreIn x e → list_any test (points_of points e) ≡ true → list_any test (points_of points x) ≡ true
 any-points points test x e h a =
     any-map test (point_at points) x ∙ h (λ c. test (point_at points c)) (sym (any-map test (point_at points) e) ∙ a)
 

@@ -4,3 +4,4 @@ pub mod Edges
 pub mod Section
 pub mod Spread
 pub mod Until
+pub mod Touching

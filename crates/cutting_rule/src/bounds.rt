@@ -12,6 +12,22 @@ pub struct Bounds {
     pub hi: Point,
 }
 
+impl Bounds {
+    /// Whether the bounding box of the points meets the box, where touching counts.
+    pub fn meets(self, points: &[Point]) -> bool
+        ensures { result ≡ is_met self.lo self.hi points.now }
+    {
+        let Bounds { lo, hi } = self;
+        if !overlaps_x(lo.x, hi.x, points) {
+            return false;
+        }
+        if !overlaps_y(lo.y, hi.y, points) {
+            return false;
+        }
+        overlaps_z(lo.z, hi.z, points)
+    }
+}
+
 /// A range of one coordinate.
 #[derive(Clone, Copy, Debug)]
 pub(crate) struct Ends {
@@ -78,20 +94,6 @@ fn greatest(a: i32, b: i32, c: i32) -> i32
     ensures greatest { All (λ v. v ≤ℤ result) (a ∷ b ∷ c ∷ []) }
 {
     a.max(b).max(c)
-}
-
-/// Whether the bounding box of the points meets the box.
-pub(crate) fn meets(bounds: Bounds, points: &[Point]) -> bool
-    ensures { result ≡ is_met bounds.lo bounds.hi points.now }
-{
-    let Bounds { lo, hi } = bounds;
-    if !overlaps_x(lo.x, hi.x, points) {
-        return false;
-    }
-    if !overlaps_y(lo.y, hi.y, points) {
-        return false;
-    }
-    overlaps_z(lo.z, hi.z, points)
 }
 
 fn overlaps_x(lo: i32, hi: i32, points: &[Point]) -> bool

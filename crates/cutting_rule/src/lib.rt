@@ -17,4 +17,4 @@ pub use cuts::cut_between;
 pub use edge::{Edge, sort_edges_once};
 pub use section::{push_section, sort_faces_once};
 pub use triangle::CuttingTriangle;
-pub use wanted::push_wanted;
+pub use wanted::{push_wanted, push_wanted_of};

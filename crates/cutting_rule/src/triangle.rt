@@ -1,6 +1,6 @@
 // A triangle that cuts, with its planes.
 ghost use Rattle.cutting_rule.specs.Bounds.{AreBounds};
-ghost use Rattle.cutting_rule.specs.Section.{IsWithin};
+ghost use Rattle.cutting_rule.specs.Touching.{IsReach, touch};
 ghost use Rattle.grid.specs.Boxes.{IsInBox, IsTriInBox};
 ghost use Rattle.grid.specs.Planes.{IsDegenerate};
 ghost use Rattle.grid.specs.Planes;
@@ -10,8 +10,8 @@ ghost use Rattle.mesh_types.specs.Phases.{points_of, wanted_in};
 ghost use Rattle.std.specs.List.{list_all, list_any};
 ghost use Rattle.std.specs.Prelude.{All, List, [], false, map, true, ℕ, ◌&&◌, ◌<◌, ◌^◌, ◌≡◌};
 
-use crate::bounds::{Bounds, bounds_of, meets};
-use crate::signs::signs_of;
+use crate::bounds::{Bounds, bounds_of};
+use crate::signs::{all_above, is_crossed, may_want_along, signs_of};
 use crate::spread::{length_above, longest, spread_box};
 use grid::{Point, Tri};
 use planes::{Plane, plane_of, side_plane};
@@ -93,8 +93,12 @@ impl CuttingTriangle {
         requires points_in { All (IsInBox (2 ^ 18)) points.now }
         ensures { result ≡ list_any (lies_above (phase_plane self.now i)) points.now }
     {
-        let signs = signs_of(self.phase_plane(i), points);
-        signs.above
+        for point in points {
+            if is_above(self.phase_plane(i), *point) {
+                return true;
+            }
+        }
+        false
     }
 
     /// Whether all the points lie on the triangle's plane.
@@ -114,10 +118,10 @@ impl CuttingTriangle {
         self.bounds
     }
 
-    /// A box that has every point of the grid that is in the triangle's section: the bounding box,
-    /// widened by how far beyond its sides and off its plane such points may lie.
+    /// A box that has the bounding box and every point of the grid that is in the triangle's section:
+    /// the bounding box, widened by how far beyond its sides and off its plane such points may lie.
     pub fn section_bounds(&self) -> Bounds
-        ensures { (p : Point) → IsInBox (2 ^ 18) p → is_in_section self.now p ≡ true → IsWithin result.lo result.hi p }
+        ensures { IsReach self.now result.lo result.hi }
     {
         let first = length_above(&self.side_0);
         let second = length_above(&self.side_1);
@@ -129,7 +133,7 @@ impl CuttingTriangle {
     fn meets(&self, points: &[Point]) -> bool
         ensures { result ≡ boxes_meet points.now self.now.0 }
     {
-        meets(self.bounds, points)
+        self.bounds.meets(points)
     }
 
     /// Whether a tetrahedron of these corners is crossed.
@@ -169,20 +173,40 @@ impl CuttingTriangle {
         requires { All (IsInBox (2 ^ 18)) points.now }
         ensures { result ≡ list_any (lies_on (section_plane self.now)) points.now }
     {
-        for point in points {
-            if self.is_on_plane(*point) {
-                return true;
-            }
-        }
-        false
+        let signs = signs_of(&self.plane, points);
+        signs.on
     }
 
-    /// Whether a point lies on the triangle's plane.
-    fn is_on_plane(&self, p: Point) -> bool
-        requires { IsInBox (2 ^ 18) p }
-        ensures { result ≡ lies_on (section_plane self.now) p }
+    /// The phases that may want edges of a tetrahedron of these corners, where the corners touch the
+    /// triangle's plane and lie not all beyond one of its sides. Of any other tetrahedron no phase wants
+    /// an edge, and no face is in the section.
+    pub fn touch(&self, corners: &[Point; 4]) -> Option<[bool; 4]>
+        requires { All (IsInBox (2 ^ 18)) corners.now }
+        ensures { result ≡ touch self.now corners.now }
     {
-        self.has_on_plane(&[p])
+        let plane = signs_of(&self.plane, corners);
+        if !plane.is_touched() {
+            return None;
+        }
+        let first = signs_of(&self.side_0, corners);
+        if !first.is_within() {
+            return None;
+        }
+        let second = signs_of(&self.side_1, corners);
+        if !second.is_within() {
+            return None;
+        }
+        let third = signs_of(&self.side_2, corners);
+        if !third.is_within() {
+            return None;
+        }
+        let reaches = all_above(first, second, third);
+        Some([
+            is_crossed(self.meets(corners), plane, reaches),
+            may_want_along(plane, first, reaches),
+            may_want_along(plane, second, reaches),
+            may_want_along(plane, third, reaches),
+        ])
     }
 
     /// Whether a phase wants the edge of these ends in a tetrahedron of these corners.
@@ -229,6 +253,14 @@ impl CuttingTriangle {
     {
         self.phase_plane(i).snap_sign(p) < 0
     }
+}
+
+#[tactic(auto, unfolding(mesh_types::specs::CuttingRule::lies_above))]
+fn is_above(plane: &Plane, p: Point) -> bool
+    requires { IsInBox (2 ^ 18) p }
+    ensures { result ≡ lies_above plane.now p }
+{
+    plane.snap_sign(p) > 0
 }
 
 #[tactic(auto, unfolding(mesh_types::specs::CuttingRule::section_plane))]

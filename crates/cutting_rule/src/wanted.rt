@@ -43,6 +43,23 @@ pub fn push_wanted(
     if !triangle.may_want(i, corners) {
         return Ok(());
     }
+    push_wanted_of(triangle, i, tet, corners, into)?;
+    Ok(())
+}
+
+/// The same, where the phase may want edges of the tetrahedron.
+pub fn push_wanted_of(
+    triangle: &CuttingTriangle,
+    i: u32,
+    tet: Tet,
+    corners: &[Point; 4],
+    into: &mut Vec<Edge>,
+) -> Result<(), Memory>
+    requires index { i < 4 }
+    requires corners_in { All (IsInBox (2 ^ 18)) corners.now }
+    requires crossed { i ≡ 0 → is_crossed triangle.now corners.now ≡ true }
+    ensures { OnOk result ((points : List Point) → corners.now ≡ points_of points tet.0 → numbers_of into.new.items ≡ numbers_of into.old.items ++ wanted_in points triangle.now i tet.0) }
+{
     for segment in segments(tet, corners) {
         push_if_wanted(triangle, i, corners, segment, into)?;
     }

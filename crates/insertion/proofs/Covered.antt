@@ -1,5 +1,5 @@
 -- After an insertion each tracked face has a certificate: a section face that of its triangle, or of a lesser one.
-use Rattle.std.proofs.Common.{◌≡◌, ◌⊎◌, ℕ, ◌<◌, List, [], ◌∷◌, ◌++◌, length, take, get_or, All, refl, sym, ap₂, subst, inl, inr, arith}
+use Rattle.std.proofs.Common.{◌≡◌, ◌⊎◌, ℕ, ◌<◌, List, [], ◌∷◌, ◌++◌, length, take, get_or, All, sym, subst, inl, inr, arith}
 use Rattle.std.specs.List.{Contains, AllByRecursion as Each}
 use Rattle.std.proofs.lemmas.List.Elements.{All-contains, All-from_recursion, recursion_from_All}
 use Rattle.grid.specs.declared.shapes.Point.{Point}
@@ -17,12 +17,8 @@ use Rattle.cutting_rule.proofs.Naming.{all-has}
 use Rattle.cover.proofs.Decisions.{leaf_law}
 use Rattle.grid.specs.Envelopes.{triangle_at}
 use Rattle.mesh_types.specs.Insertion.{face_at}
-use Rattle.insertion.proofs.Old.{point-kept}
+use Rattle.cutter.proofs.TouchedSlots.{points-kept}
 use Rattle.cutting_rule.proofs.SectionTriples.{section-triples}
-
-points-same : (old new : List Point) → take (length old) new ≡ old → (f : List ℕ) → Each (λ u. u < length old) f → points_of new f ≡ points_of old f
-points-same old new e [] h = refl
-points-same old new e (u ∷ f) h = ap₂ ◌∷◌ (point-kept old new u e h.0) (points-same old new e f h.1)
 
 -- a face whose corners are near to a triangle
 face-covered : (points : List Point) (triangles : List Tri) (e t : ℕ) (f : List ℕ) → t < length triangles → length f ≡ 3 → All (λ u. Near (point_at points u) 0 (triangle_at triangles t) e) f → IsCovered triangles e points f
@@ -48,7 +44,7 @@ covered-cut m n triangles e t lt w v points fresh kept near certs =
           let f = get_or n.tracked k d in
           let before : IsCovered triangles e m.points f = All-contains (IsCovered triangles e m.points) m.tracked f certs c in
           let triple : IsTriple (length m.points) f = All-contains (IsTriple (length m.points)) m.tracked f w.triples_are c in
-          let same : points_of n.points f ≡ points_of m.points f = points-same m.points n.points points f (recursion_from_All (λ u. u < length m.points) f triple.in_range) in
+          let same : points_of n.points f ≡ points_of m.points f = points-kept m.points n.points points f (recursion_from_All (λ u. u < length m.points) f triple.in_range) in
           record { certificate = subst (λ ps. HasCertificate triangles e (record { 0 = ps })) (sym same) before.certificate }
       | inr h ↦ elim (kept k d lt) [
         | inr cert ↦ record { certificate = cert }

@@ -1,5 +1,5 @@
 -- The pieces of a touched triple have a new corner.
-use Rattle.std.proofs.Common.{◌≡◌, ℕ, ◌+◌, ◌≤◌, Bool, true, false, ◌&&◌, ◌||◌, List, [], ◌∷◌, sym, ◌∙◌, ap, subst, inl, inr, arith}
+use Rattle.std.proofs.Common.{◌≡◌, ℕ, ◌+◌, ◌≤◌, true, ◌&&◌, ◌||◌, List, [], ◌∷◌, sym, ◌∙◌, ap, subst, inl, inr, arith}
 use Rattle.std.specs.List.{flat_map, AllByRecursion as Each}
 use Rattle.std.proofs.lemmas.Bool.{cases_Bool, and_parts, or_left, or_right, eq-eqb, true≢false}
 use Rattle.grid.specs.Simplices.{has, put, replaced, sub}

@@ -4,21 +4,13 @@ use Rattle.std.specs.List.{AllByRecursion as Each}
 use Rattle.std.proofs.lemmas.Bool.{cases_Bool, true≢false}
 use Rattle.std.proofs.lemmas.List.Elements.{recursion_from_All}
 use Rattle.grid.specs.declared.shapes.Point.{Point}
-use Rattle.grid.specs.Determinants.{point_at, det, det_at, IsPositive}
+use Rattle.grid.specs.Determinants.{det, det_at, IsPositive}
 use Rattle.grid.specs.Simplices.{IsTet}
 use Rattle.mesh_store.specs.Changes.{IsGrown}
 use Rattle.mesh_store.specs.Parts.{Parts, live_tets}
 use Rattle.tet_slots.specs.declared.slot.Slot.{Slot}
 use Rattle.tet_slots.specs.Slots.{slot_at, no_slot}
-
-point-front : (points : List Point) (n u : ℕ) → u < n → point_at (take n points) u ≡ point_at points u
-point-front points zero u lt = absurd (omega arith)
-point-front [] (suc n) u lt = refl
-point-front (p ∷ points) (suc n) zero lt = refl
-point-front (p ∷ points) (suc n) (suc u) lt = point-front points n u (omega arith)
-
-pub point-kept : (old new : List Point) (u : ℕ) → take (length old) new ≡ old → u < length old → point_at new u ≡ point_at old u
-point-kept old new u e lt = sym (point-front new (length old) u lt) ∙ ap (λ ps. point_at ps u) e
+use Rattle.cutter.proofs.TouchedSlots.{point-kept}
 
 det-kept : (old new : List Point) (x : List ℕ) → take (length old) new ≡ old → Each (λ u. u < length old) x → det_at new x ≡ det_at old x
 det-kept old new (a ∷ b ∷ c ∷ d ∷ []) e h =

@@ -1,42 +1,49 @@
-use Rattle.std.proofs.Common.{◌≡◌, ◌^◌, ap, ◌∙◌, arith}
+use Rattle.std.proofs.Common.{◌^◌, ap, map, ◌∙◌, arith}
 use Rattle.std.specs.List.{flat_map}
-use Rattle.tet_slots.specs.Searches.{numbers_of as found_numbers, meets}
+use Rattle.tet_slots.specs.Searches.{numbers_of as found_numbers}
 use Rattle.tet_slots.specs.Slots.{slot_at}
 use Rattle.cutting_rule.specs.Section.{section_in}
 use Rattle.cutting_rule.proofs.Points.{points-in}
 use Rattle.cutting_rule.proofs.Steps.{mapped-step, mapped-end}
-use Rattle.cutter.specs.Found.{tets_at}
-use Rattle.cutter.proofs.Meeting.{live-meets, not-met}
-use Rattle.cutter.proofs.Near.{near-all, passes-at}
+use Rattle.cutter.specs.declared.touching.Touched.{Touched}
+use Rattle.cutter.specs.Found.{is_touching}
+use Rattle.cutter.proofs.Meeting.{live-touching, not-touching}
+use Rattle.cutter.proofs.Near.{near-all}
+use Rattle.cutter.proofs.TouchedSlots.{known-at, no_touched, tets-touched}
 use Rattle.cutter.proofs.SectionPlaces.{far-sections}
 use Rattle.cutter.proofs.sections.section_faces.Goals as goal
 
 pub tet-tet-requires : goal.tet-tet-requires
 tet-tet-requires c =
-    let lo = c.section_bounds-bounds.result.lo in
-    let hi = c.section_bounds-bounds.result.hi in
-    (passes-at (meets c.args.slots.now.points lo hi) c.args.slots.now.slots c.deref-slot-items.result.now (c.deref-slot-items.ensures.value ∙ c.in_ok-meeting.ensures) c.loop-slot.slot-index 0 (omega arith)).0
+    let points = c.args.slots.now.points in
+    let t = c.args.triangle.now in
+    let near = c.requires.near in
+    (known-at points c.args.slots.now.slots t (is_touching points t c.args.near.now.reach.lo c.args.near.now.reach.hi) c.deref-touched-items.result.now (c.deref-touched-items.ensures.value ∙ near.found) c.loop-touched.touched-index no_touched (omega arith)).0
 
 pub push_section-requires : goal.push_section-requires
 push_section-requires c =
-    points-in (2 ^ 18) c.args.slots.now.points c.corner_points-corners.result c.tet-tet.result.0 c.corner_points-corners.ensures c.requires c.tet-tet.ensures.corners.in_range
+    points-in (2 ^ 18) c.args.slots.now.points c.corner_points-corners.result c.tet-tet.result.0 c.corner_points-corners.ensures c.requires.in_box c.tet-tet.ensures.corners.in_range
 
-pub loop-slot-preserved : goal.loop-slot-preserved
-loop-slot-preserved c =
+pub loop-touched-preserved : goal.loop-touched-preserved
+loop-touched-preserved c =
     let points = c.args.slots.now.points in
-    mapped-step (λ k. (slot_at c.args.slots.now.slots k).tet.0) (section_in points c.args.triangle.now) c.deref-slot-items.result.now c.loop-slot.slot-index 0 c.tet-tet.result.0 _ _ _ (omega arith) (ap (λ t. t.0) c.tet-tet.ensures.value)
-    (c.in_ok-push_section.ensures points c.corner_points-corners.ensures) c.loop-slot.invariant
+    let slots = c.args.slots.now.slots in
+    mapped-step (λ (e : Touched). (slot_at slots e.slot).tet.0) (section_in points c.args.triangle.now) c.deref-touched-items.result.now c.loop-touched.touched-index no_touched c.tet-tet.result.0 _ _ _ (omega arith) (ap (λ t. t.0) c.tet-tet.ensures.value)
+    (c.in_ok-push_section.ensures points c.corner_points-corners.ensures) c.loop-touched.invariant
 
 pub returns : goal.returns
 returns c =
-    let lo = c.section_bounds-bounds.result.lo in
-    let hi = c.section_bounds-bounds.result.hi in
+    let near = c.requires.near in
+    let lo = c.args.near.now.reach.lo in
+    let hi = c.args.near.now.reach.hi in
     let points = c.args.slots.now.points in
     let slots = c.args.slots.now.slots in
     let t = c.args.triangle.now in
     let f = section_in points t in
-    let items = c.deref-slot-items.result.now in
-    let is : items ≡ found_numbers (meets points lo hi) 0 slots = c.deref-slot-items.ensures.value ∙ c.in_ok-meeting.ensures in
-    mapped-end (λ k. (slot_at slots k).tet.0) f items c.loop-slot.slot-index _ _ (omega arith) c.loop-slot.invariant
-    ∙ (ap (λ ns. flat_map f (tets_at slots ns)) is
-    ∙ near-all f (meets points lo hi) (λ s m. live-meets points lo hi s m) (λ s live m. far-sections (2 ^ 18) points t lo hi s.tet.0 c.requires c.section_bounds-bounds.ensures (not-met points lo hi s live m)) slots)
+    let g = λ (e : Touched). (slot_at slots e.slot).tet.0 in
+    let items = c.deref-touched-items.result.now in
+    let ns = found_numbers (is_touching points t lo hi) 0 slots in
+    mapped-end g f items c.loop-touched.touched-index _ _ (omega arith) c.loop-touched.invariant
+    ∙ (ap (λ es. flat_map f (map g es)) (c.deref-touched-items.ensures.value ∙ near.found)
+    ∙ (ap (flat_map f) (tets-touched points slots t ns)
+    ∙ near-all f (is_touching points t lo hi) (λ s m. live-touching points t lo hi s m) (λ s live m. far-sections points t lo hi s.tet.0 c.requires.in_box near.reach (not-touching points t lo hi s live m)) slots))

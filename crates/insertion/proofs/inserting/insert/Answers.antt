@@ -17,8 +17,9 @@ settle-requires-clause-cut c =
     let tri = c.triangle-tri.result in
     let area : ¬ IsDegenerate tri = search rules in
     let opened : IsOpenFrom old.parts old.side c.cut.new.store = c.in-Ok.ensures.goes_on old.parts old.side (begun-open old c.begin.new.self c.begin.ensures) in
+    let mesh : mesh_in c.cut.new.store.parts ≡ cut_by (mesh_in c.begin.new.self.parts) tri = c.in-Ok.ensures.mesh ∙ ap (cut_by (mesh_in c.begin.new.self.parts)) c.new-triangle.ensures in
     subst (λ t. IsCut t c.cut.new.store) c.triangle-tri.ensures.value
-    (cut-is old c.begin.new.self c.cut.new.store tri c.begin.ensures c.slots.ensures.sound c.requires.positive opened c.in-Ok.ensures.sound c.in-Ok.ensures.mesh c.in-Ok.ensures.within area c.triangle-tri.ensures.within)
+    (cut-is old c.begin.new.self c.cut.new.store tri c.begin.ensures c.slots.ensures.sound c.requires.positive opened c.in-Ok.ensures.sound mesh c.in-Ok.ensures.within area c.triangle-tri.ensures.within)
 
 pub settle-requires-clause-points : goal.settle-requires-clause-points
 settle-requires-clause-points c =
@@ -39,7 +40,7 @@ settle-requires-clause-counted c =
     let old = c.args.store.now in
     let opened : IsOpenFrom old.parts old.side c.cut.new.store = c.in-Ok.ensures.goes_on old.parts old.side (begun-open old c.begin.new.self c.begin.ensures) in
     let s : start_of c.cut.new.store ≡ old.parts = start-is old.parts old.side c.cut.new.store opened in
-    ap (λ (p : Parts). length p.points + c.in-Ok.count) (s ∙ sym (ap (λ (v : StoreView). v.parts) c.begin.ensures)) ∙ c.in-Ok.ensures.count
+    ap (λ (p : Parts). length p.points + c.in-Ok.cuts.points) (s ∙ sym (ap (λ (v : StoreView). v.parts) c.begin.ensures)) ∙ c.in-Ok.ensures.count
 
 pub returns-in-Ok-clause-side : goal.returns-in-Ok-clause-side
 returns-in-Ok-clause-side c =
@@ -82,7 +83,7 @@ returns-in-Err-Full-clause-outcome c =
     let m = mesh_in old.parts in
     let tri = c.triangle-tri.result in
     let area : ¬ IsDegenerate tri = search rules in
-    let over : ¬ IsWithinLimits (cut_by (mesh_in c.begin.new.self.parts) tri) = c.in-Err-Full.ensures.full (ap Err c.in-Err-Full.field-0-is) in
+    let over : ¬ IsWithinLimits (cut_by (mesh_in c.begin.new.self.parts) tri) = subst (λ t. ¬ IsWithinLimits (cut_by (mesh_in c.begin.new.self.parts) t)) c.new-triangle.ensures (c.in-Err-Full.ensures.full (ap Err c.in-Err-Full.field-0-is)) in
     let beyond : ¬ IsWithinLimits (cut_by m (triangle_at c.args.env.now c.args.t)) =
     subst (λ t. ¬ IsWithinLimits (cut_by m t)) c.triangle-tri.ensures.value (subst (λ (v : StoreView). ¬ IsWithinLimits (cut_by (mesh_in v.parts) tri)) c.begin.ensures over) in (
       full-first c.args.env.now c.args.t c.args.e m (cut_by m (triangle_at c.args.env.now c.args.t)) (subst (λ t. ¬ IsDegenerate t) c.triangle-tri.ensures.value area) beyond,

@@ -22,8 +22,8 @@ track-requires-clause-triples c =
     code-all (IsTriple (length n.points)) c.deref.result.now (section n t) (ap triples_of c.deref.ensures.value ∙ h.faces_are)
     (section-triples n t (well_formed c.args.store.now.side c.args.store.now.parts c.requires.cut.sound_now).tets_are)
 
-pub returns-in_ok-track-in-Ok-Sound-clause-tiles : goal.returns-in_ok-track-in-Ok-Sound-clause-tiles
-returns-in_ok-track-in-Ok-Sound-clause-tiles c = λ l tiles.
+pub returns-in-Ok-Sound-clause-tiles : goal.returns-in-Ok-Sound-clause-tiles
+returns-in-Ok-Sound-clause-tiles c = λ l tiles.
     let v = c.args.store.now in
     let m = mesh_in (start_of v) in
     let n = mesh_in v.parts in
@@ -34,8 +34,8 @@ returns-in_ok-track-in-Ok-Sound-clause-tiles c = λ l tiles.
     ∙ (c.in_ok-track-in-Ok-Sound.ensures.mesh ∙ ap (with_tracked n) (ap triples_of c.deref.ensures.value ∙ h.faces_are)) in
     subst (λ (x : Mesh). Tiles x l) (sym is) (tiles-cut m n t l (well_formed v.side (start_of v) c.requires.cut.sound) tiles c.requires.cut.mesh h.positive)
 
-pub returns-in_ok-track-in-Ok-Sound-clause-covered : goal.returns-in_ok-track-in-Ok-Sound-clause-covered
-returns-in_ok-track-in-Ok-Sound-clause-covered c = λ certs.
+pub returns-in-Ok-Sound-clause-covered : goal.returns-in-Ok-Sound-clause-covered
+returns-in-Ok-Sound-clause-covered c = λ certs.
     let v = c.args.store.now in
     let m = mesh_in (start_of v) in
     let n = mesh_in v.parts in

@@ -19,7 +19,7 @@ first_stray-requires-clause-there c =
     let v = c.args.store.now in
     let n = mesh_in v.parts in
     let t = triangle_at c.args.env.now c.args.t in
-    let is : triples_of c.deref.result.now ≡ section n t = ap triples_of c.deref.ensures.value ∙ (c.in_ok-faces.ensures ∙ ap (section n) c.triangle-tri.ensures.value) in
+    let is : triples_of c.deref.result.now ≡ section n t = ap triples_of c.deref.ensures.value ∙ (c.in_ok-faces.ensures ∙ ap (section n) c.requires.is) in
     subst (λ (ps : List Point). All (λ (f : Face). All (λ u. u < length ps) f.0) c.deref.result.now) (sym c.slots.ensures.points)
     (code-all (λ f. All (λ u. u < length n.points) f) c.deref.result.now (section n t) is (lower (length n.points) (section n t) (section-triples n t (well_formed v.side v.parts c.requires.cut.sound_now).tets_are)))
 
@@ -29,7 +29,7 @@ returns-in-Some c =
     let n = mesh_in v.parts in
     let t = triangle_at c.args.env.now c.args.t in
     let e = c.args.e in
-    let is : triples_of c.deref.result.now ≡ section n t = ap triples_of c.deref.ensures.value ∙ (c.in_ok-faces.ensures ∙ ap (section n) c.triangle-tri.ensures.value) in
+    let is : triples_of c.deref.result.now ≡ section n t = ap triples_of c.deref.ensures.value ∙ (c.in_ok-faces.ensures ∙ ap (section n) c.requires.is) in
     let h : NamesFirst n.points (IsStray n.points t e) (section n t) c.in-Some.corners =
     subst (λ fs. NamesFirst n.points (IsStray n.points t e) fs c.in-Some.corners) is
     (subst (λ s. NamesFirst n.points (IsStray n.points s e) (triples_of c.deref.result.now) c.in-Some.corners) c.triangle-tri.ensures.value
@@ -37,14 +37,14 @@ returns-in-Some c =
     stray-first c.args.env.now c.args.t e (mesh_in (start_of v)) n c.requires.cut.some_area c.requires.cut.within c.requires.positive c.requires.resolved c.in-Some.corners h
 
 pub judge_near-requires-clause-faces : goal.judge_near-requires-clause-faces
-judge_near-requires-clause-faces c = c.in_ok-faces.ensures ∙ ap (section (mesh_in c.args.store.now.parts)) c.triangle-tri.ensures.value
+judge_near-requires-clause-faces c = c.in_ok-faces.ensures ∙ ap (section (mesh_in c.args.store.now.parts)) c.requires.is
 
 pub judge_near-requires-clause-near : goal.judge_near-requires-clause-near
 judge_near-requires-clause-near c =
     let n = mesh_in c.args.store.now.parts in
     let t = triangle_at c.args.env.now c.args.t in
     let e = c.args.e in
-    let is : triples_of c.deref.result.now ≡ section n t = ap triples_of c.deref.ensures.value ∙ (c.in_ok-faces.ensures ∙ ap (section n) c.triangle-tri.ensures.value) in
+    let is : triples_of c.deref.result.now ≡ section n t = ap triples_of c.deref.ensures.value ∙ (c.in_ok-faces.ensures ∙ ap (section n) c.requires.is) in
     subst (λ fs. All (λ f. All (λ u. Near (point_at n.points u) 0 t e) f) fs) is
     (subst (λ s. All (λ f. All (λ u. Near (point_at n.points u) 0 s e) f) (triples_of c.deref.result.now)) c.triangle-tri.ensures.value
     (subst (λ (ps : List Point). All (λ f. All (λ u. Near (point_at ps u) 0 c.triangle-tri.result e) f) (triples_of c.deref.result.now)) c.slots.ensures.points c.in-None.ensures))

@@ -1,11 +1,11 @@
-use Rattle.std.proofs.Common.{◌≡◌, ◌∙◌, ◌+◌, ◌<◌, ◌++◌, ◌∷◌, [], map, sym, ap, subst, refl, length, take, drop, List, ℕ, true, false, arith}
-use Rattle.std.proofs.lemmas.List.{map-append, take_all}
+use Rattle.std.proofs.Common.{◌≡◌, ◌∙◌, ◌+◌, ◌++◌, ◌∷◌, [], sym, ap, subst, refl, take, List, ℕ, arith}
+use Rattle.std.proofs.lemmas.List.{take_all}
 use Rattle.mesh_types.specs.declared.outcome.Again.{Again}
 use Rattle.mesh_types.specs.declared.outcome.Outcome.{Outcome}
-use Rattle.mesh_types.specs.Turns.{is_rolled_back, rolled_back}
+use Rattle.mesh_types.specs.Turns.{rolled_back}
 use Rattle.mesh_store.specs.Parts.{StoreView, mesh_in}
 use Rattle.insertion.specs.InTurn.{AreTurns, AreSomeTurns, outcomes_of, triangles_of}
-use Rattle.insertion.proofs.RolledBack.{rolled-parts, rolled-next, rolled-skip, again-push, some-rolled_back}
+use Rattle.insertion.proofs.RolledBack.{rolled-next, rolled-skip, again-push, some-rolled_back}
 use Rattle.insertion.proofs.Turning.{no-turns, turns-push, on_err}
 use Rattle.insertion.proofs.retrying.second_turn.Goals as goal
 use Rattle.insertion.proofs.retrying.second_turn.Goals.{then-has_defect+in_ok-outcome+in_ok-push, else-has_defect}

@@ -1,12 +1,10 @@
-use Rattle.std.proofs.Common.{◌≡◌, ◌^◌, ◌*◌, true, pos, ◌≤ℤ◌, subst}
-use Rattle.grid.specs.declared.shapes.Point.{Point}
+use Rattle.std.proofs.Common.{◌^◌, ◌*◌, pos, ◌≤ℤ◌, subst}
 use Rattle.grid.specs.declared.shapes.Tri.{Tri}
-use Rattle.grid.specs.Boxes.{IsInBox}
 use Rattle.grid.specs.Planes.{Plane}
 use Rattle.grid.specs.Vectors.{dot}
-use Rattle.mesh_types.specs.CuttingRule.{is_in_section}
-use Rattle.cutting_rule.specs.Section.{IsWithin}
+use Rattle.cutting_rule.specs.Touching.{IsReach}
 use Rattle.cutting_rule.proofs.SectionBox.{section-IsWithin}
+use Rattle.cutting_rule.proofs.Reaches.{reach-is}
 use Rattle.cutting_rule.proofs.Spreads.{lo-IsInBox, hi-IsInBox, longest-of}
 use Rattle.cutting_rule.proofs.triangle.CuttingTriangle.section_bounds.Goals as goal
 
@@ -32,5 +30,8 @@ returns c =
     let v_in = subst (λ (m : Plane). dot m.normal m.normal ≤ℤ pos (v * v)) c.self.invariant.second_is c.length_above-second.ensures.above in
     let w_in = subst (λ (m : Plane). dot m.normal m.normal ≤ℤ pos (w * w)) c.self.invariant.third_is c.length_above-third.ensures.above in
     let area_in = longest-of t c.self.inside.plane c.longest.result c.self.invariant.plane_is c.longest.ensures.high in
-    subst (λ (t : Tri). (p : Point) → IsInBox (2 ^ 18) p → is_in_section t p ≡ true → IsWithin l h p) c.self.view_is
-    (section-IsWithin t c.self.inside.bounds.lo c.self.inside.bounds.hi l h u v w c.longest.result c.self.invariant.three c.self.invariant.some_area c.self.invariant.bounds u_in v_in w_in area_in c.spread_box.ensures)
+    let inside = section-IsWithin t c.self.inside.bounds.lo c.self.inside.bounds.hi l h u v w c.longest.result c.self.invariant.three c.self.invariant.some_area c.self.invariant.bounds u_in v_in w_in area_in c.spread_box.ensures in
+    let lo_in = lo-IsInBox t (2 ^ 18) c.self.inside.bounds.lo c.self.inside.bounds.hi c.self.invariant.three c.self.invariant.in_box c.self.invariant.bounds in
+    let hi_in = hi-IsInBox t (2 ^ 18) c.self.inside.bounds.lo c.self.inside.bounds.hi c.self.invariant.three c.self.invariant.in_box c.self.invariant.bounds in
+    subst (λ (t : Tri). IsReach t l h) c.self.view_is
+    (reach-is t c.self.inside.bounds.lo c.self.inside.bounds.hi l h _ _ c.self.invariant.bounds lo_in hi_in c.spread_box.ensures inside)

@@ -2,7 +2,7 @@ use Rattle.std.proofs.Common.{◌≡◌, ◌++◌, drop}
 use Rattle.std.specs.List.{flat_map}
 use Rattle.cutting_rule.specs.Edges.{numbers_of}
 use Rattle.cutting_rule.proofs.Segments.{wanted_of}
-use Rattle.cutting_rule.proofs.wanted.push_wanted.Given as goal
+use Rattle.cutting_rule.proofs.wanted.push_wanted_of.Given as goal
 
 abbrev pub invariant-loop-segment : goal.invariant-loop-segment
 invariant-loop-segment l =

@@ -1,8 +1,0 @@
-use Rattle.std.proofs.Common.{ap}
-use Rattle.mesh_store.specs.Parts.{mesh_in, live_tets}
-use Rattle.cutting_rule.proofs.SectionFaces.{section-is}
-use Rattle.cutter.proofs.sections.section.Goals as goal
-
-pub returns : goal.returns
-returns c =
-    section-is _ _ (mesh_in c.args.store.now.parts) c.new-triangle.result c.args.tri.now _ _ c.sort_faces_once.ensures c.in_ok-faces.ensures c.slots.ensures.points (ap live_tets c.slots.ensures.slots) c.new-triangle.ensures
