@@ -14,6 +14,7 @@ Usage: house.py [KIND..], where the kinds are
 import re
 import sys
 from collections import defaultdict
+from itertools import groupby
 from pathlib import Path
 
 TOP = Path(__file__).resolve().parent.parent
@@ -76,9 +77,9 @@ def made(path, lines, number, name, kind, margin):
     end = number + 1
     while end < len(lines):
         text = lines[end].removeprefix(margin)
-        if lines[end].strip() and not text.startswith(" ") and TOKEN.findall(text + " ")[:1] != [name]:
-            if not text.startswith("unfolding"):
-                break
+        inside = lines[end].startswith(margin) and text.startswith((" ", "unfolding"))
+        if lines[end].strip() and not inside and TOKEN.findall(text + " ")[:1] != [name]:
+            break
         end += 1
     more = []
     for line in lines[number + 1 : end]:
@@ -117,29 +118,42 @@ def alike():
             seen[text] = each
 
 
-def citations():
-    """How often each token stands in the sources, outside the lines that only import it."""
-    counts = defaultdict(int)
+def imports():
+    """The names that some file takes from each module; "*" where the module itself is taken under a name."""
+    taken = defaultdict(set)
     for path in sources(".antt", ".rt", ".antt.txt", ".rt.txt"):
-        for line in path.read_text().replace("::", " ").split("\n"):
-            stripped = line.strip()
-            if stripped.startswith(("use ", "ghost use ", "--", "//")):
-                for name, other in re.findall(r"([^\s{},]+) as ([^\s{},;]+)", stripped):
-                    counts[name.split(".")[-1]] += 1
-                continue
+        text = path.read_text()
+        for module, names in re.findall(r"\buse ([\w.+-]+)\.\{([^}]*)\}", text):
+            taken[module] |= {name.split(" as ")[0].strip() for name in names.split(",")}
+        for module, name in re.findall(r"\buse ([\w.+-]+)\.([^\s.{};]+)(?: as [^\s;]+)?;?$", text, re.M):
+            taken[module].add(name)
+            taken[f"{module}.{name}"].add("*")
+    return taken
+
+
+def citations(lines):
+    """How often each token stands in these lines, outside those that only import it."""
+    counts = defaultdict(int)
+    for line in lines:
+        if not line.strip().startswith(("use ", "--")):
             for token in TOKEN.findall(line):
                 counts[token.lstrip("!'")] += 1
     return counts
 
 
 def uncited():
-    counts = citations()
-    for each in all_declarations():
-        own = sum(TOKEN.findall(line).count(each.name) for line in each.text)
-        operator = each.name.strip("◌")
-        total = sum(counts[name] for name in {each.name, operator})
-        if total <= own:
-            yield f"{each.place()}: nothing cites {each.name}"
+    """Examples are left out: their lemmas are tests of definitions."""
+    taken = imports()
+    for path, found in groupby(all_declarations(), lambda each: each.path):
+        if "Example" in path.stem:
+            continue
+        module = ".".join(["Rattle", *path.relative_to(TOP / "crates").with_suffix("").parts])
+        counts = citations(path.read_text().split("\n"))
+        for each in found:
+            names = {each.name, each.name.strip("◌")}
+            own = citations(each.text)
+            if all(counts[name] <= own[name] for name in names) and not taken[module] & (names | {"*"}):
+                yield f"{each.place()}: nothing cites {each.name}"
 
 
 def wide():

@@ -14,9 +14,9 @@ use Rattle.mesh_types.specs.Lattice.{lattice}
 use Rattle.mesh_types.specs.Verdicts.{Setting}
 use Rattle.mesh_types.specs.Views.{mesh_of}
 use Rattle.msh_text.specs.Plain.{IsFileMesh}
-use Rattle.msh_text.proofs.Keeping as file_keeping
+use Rattle.msh_text.proofs.ForCallers as file_keeping
 use Rattle.report_text.specs.Plain.{IsPlainOutcome, IsPlainReport}
-use Rattle.report_text.proofs.Keeping as report_keeping
+use Rattle.report_text.proofs.ForCallers as report_keeping
 use Rattle.report_text.specs.Rules as report_rules
 use Rattle.soup.specs.declared.raw.Soup.{Soup}
 use Rattle.soup.specs.Placement.{side}
@@ -24,8 +24,7 @@ use Rattle.mesher.specs.declared.meshed.Meshed.{Meshed}
 use Rattle.cert_check.specs.Faults.{case_of}
 use Rattle.cert_check.specs.Sound.{IsSound}
 use Rattle.cert_check.specs.Written.{IsCoveringOfTriple, IsWritten}
-use Rattle.cert_check.proofs.Accepted.{written_is_sound}
-use Rattle.cert_check.proofs.Soundness.{sound_is_good}
+use Rattle.cert_check.proofs.ForCallers.{written_is_sound, sound_is_good}
 use Rattle.outputs.specs.declared.asked.Asked.{Asked}
 use Rattle.outputs.specs.Made.{file_of, report_of}
 use Rattle.acceptance.specs.Accepted.{IsRun, OffTheBoxLaw, FewTrackedLaw, AcceptedLaw}

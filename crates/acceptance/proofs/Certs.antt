@@ -5,15 +5,9 @@ use Rattle.grid.specs.declared.shapes.Tri.{Tri}
 use Rattle.mesh_types.specs.declared.cert.Cert.{Cert, out-Cert}
 use Rattle.mesh_types.specs.declared.cert.Cert.TheOpen.{Cert-F}
 use Rattle.mesh_types.specs.declared.cert.Cert.TheOpen as open_cert
-use Rattle.mesh_types.specs.Certificates.{pieces, Each, Covers, CoversLevel, IsLeastCertificate, IsLeastLevel}
+use Rattle.mesh_types.specs.Certificates.{pieces, Each, Covers, CoversLevel}
 use Rattle.cover.proofs.Parts.{piece_at}
 use Rattle.report_text.specs.Plain.{IsPlainTop, IsPlainCert}
-
-each_weaker : (P Q : Tri → Cert → Type 0) → ((f : Tri) (c : Cert) → P f c → Q f c) → (fs : List Tri) (cs : List Cert) → Each P fs cs → Each Q fs cs
-each_weaker P Q g [] [] h = tt
-each_weaker P Q g [] (c ∷ cs) h = absurd h
-each_weaker P Q g (f ∷ fs) [] h = absurd h
-each_weaker P Q g (f ∷ fs) (c ∷ cs) h = (g f c h.0, each_weaker P Q g fs cs h.1)
 
 four_plain : (P : Tri → Cert → Type 0) (Q : Cert → Type 0) → ((f : Tri) (c : Cert) → P f c → Q c) → (f : Tri) (parts : List Cert) → Each P (pieces f) parts → (length parts ≡ 4) × All Q parts
 four_plain P Q g f [] h = absurd h
@@ -26,17 +20,6 @@ four_plain P Q g f (a ∷ b ∷ c ∷ d ∷ []) h =
     (refl, All-from_recursion Q (a ∷ b ∷ c ∷ d ∷ []) (g (at 0) a h.0, (g (at 1) b h.1.0, (g (at 2) c h.1.1.0, (g (at 3) d h.1.1.1.0, tt)))))
 
 module _ (triangles : List Tri) (e : ℕ) where
-  top_covers : (k : ℕ) (f : Tri) (P Q : List Cert → Type 0) → ((parts : List Cert) → P parts → Q parts) → (x : Cert-F Cert) → IsLeastLevel triangles e k f P x → CoversLevel triangles e k f Q x
-  top_covers k f P Q g (open_cert.Leaf t) h = h.is_near
-  top_covers k f P Q g (open_cert.Split parts) h = g parts h.1
-
-  pub covers_least : (levels k : ℕ) (f : Tri) (c : Cert) → IsLeastCertificate triangles e levels k f c → Covers triangles e levels k f c
-  covers_least zero k f c h = top_covers k f (λ parts. ⊥) (λ parts. ⊥) (λ parts none. none) (out-Cert c) h
-  covers_least (suc levels) k f c h =
-      let P = IsLeastCertificate triangles e levels (k + 1) in
-      let Q = Covers triangles e levels (k + 1) in
-      top_covers k f (Each P (pieces f)) (Each Q (pieces f)) (each_weaker P Q (covers_least levels (k + 1)) (pieces f)) (out-Cert c) h
-
   module _ (few : length triangles ≤ 2 ^ 20) where
     top_plain : (k : ℕ) (f : Tri) (P Q : List Cert → Type 0) → ((parts : List Cert) → P parts → Q parts) → (x : Cert-F Cert) → CoversLevel triangles e k f P x → IsPlainTop Q x
     top_plain k f P Q g (open_cert.Leaf t) h = let lt = h.in_range in omega (arith, lt, few)

@@ -3,6 +3,7 @@ use Rattle.std.proofs.Common.{◌≡◌, ℕ, ◌+◌, ◌^◌, ◌<◌, ◌≤�
 use Rattle.std.specs.List.{AllZip, AllByRecursion as Each}
 use Rattle.std.proofs.lemmas.List.{length-map}
 use Rattle.std.proofs.lemmas.List.Elements.{All-from_recursion, recursion_from_All}
+use Rattle.cover.proofs.One.{certificate_law}
 use Rattle.grid.proofs.Rotations.{has3-cases}
 use Rattle.grid.specs.declared.shapes.Face.{Face}
 use Rattle.grid.specs.declared.shapes.Point.{Point}
@@ -22,7 +23,7 @@ use Rattle.report_text.specs.declared.report.Covering.{Covering}
 use Rattle.report_text.specs.Plain.{IsPlainCovering}
 use Rattle.soup.specs.Placement.{IsTriInside}
 use Rattle.acceptance.specs.OffBox.{IsOffBox}
-use Rattle.acceptance.proofs.Certs.{covers_least, covers_plain}
+use Rattle.acceptance.proofs.Certs.{covers_plain}
 use Rattle.acceptance.proofs.Renumbered.{Rises-next}
 use Rattle.acceptance.proofs.SideBySide.{firsts, seconds}
 use Rattle.acceptance.proofs.TwoInside.{IsTriTwoInside, IsPointTwoInside, covers_inside, off_sides}
@@ -60,7 +61,7 @@ module _ (triangles : List Tri) (e : ℕ) (points : List Point) where
   covers_zip n [] (c ∷ cs) q h = absurd h
   covers_zip n (t ∷ ts) [] q h = absurd h
   covers_zip n (t ∷ ts) (c ∷ cs) q h = (
-    record { face = h.0.face; covers = subst (λ (f : Tri). Covers triangles e most_levels 0 f c.cert) (tri_is points t q.0.three) (covers_least triangles e most_levels 0 (face_at points t) c.cert h.0.cert) },
+    record { face = h.0.face; covers = subst (λ (f : Tri). Covers triangles e most_levels 0 f c.cert) (tri_is points t q.0.three) (certificate_law triangles e most_levels 0 (face_at points t) c.cert h.0.cert).0 },
     covers_zip n ts cs q.1 h.1,
   )
 

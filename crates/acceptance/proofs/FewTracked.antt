@@ -4,6 +4,7 @@ use Rattle.std.specs.List.{count_by, Contains, AllByRecursion as Each}
 use Rattle.std.proofs.lemmas.Bool.{cases_Bool, cases_eq}
 use Rattle.std.proofs.lemmas.Int.{ints}
 use Rattle.std.proofs.lemmas.List.Elements.{recursion_from_All}
+use mathlib.Core.Logic.{Ne-symm}
 use Rattle.int_algebra.proofs.Laws.{linear}
 use Rattle.grid.proofs.Members.{count_by-cons_yes, count_by-cons_no}
 use Rattle.grid.specs.Boxes.{IsOnOneSide}
@@ -127,11 +128,8 @@ tet_faces : (n : ℕ) (x : List ℕ) → Cornered n x → Each IsFace (faces x)
 tet_faces n x t =
     let d = t.different in
     subst (λ y. Each IsFace (faces y)) (sym t.is)
-    (three t.a t.c t.b d.ac d.ab (turn d.bc), (three t.a t.b t.d d.ab d.ad d.bd, (three t.a t.d t.c d.ad d.ac (turn d.cd), (three t.b t.c t.d d.bc d.bd d.cd, tt))))
+    (three t.a t.c t.b d.ac d.ab (Ne-symm d.bc), (three t.a t.b t.d d.ab d.ad d.bd, (three t.a t.d t.c d.ad d.ac (Ne-symm d.cd), (three t.b t.c t.d d.bc d.bd d.cd, tt))))
   where
-    turn : {a b : ℕ} → a ≢ b → b ≢ a
-    turn h e = h (sym e)
-
     three : (a b c : ℕ) → a ≢ b → a ≢ c → b ≢ c → IsFace (a ∷ b ∷ c ∷ [])
     three a b c p q r = record { a = a; b = b; c = c; is = refl; ab = p; ac = q; bc = r }
 

@@ -3,7 +3,7 @@ use Rattle.std.proofs.Common.{◌≡◌, ℕ, ◌+◌, List, [], ◌∷◌, leng
 use Rattle.std.proofs.lemmas.List.Elements.{All-from_recursion}
 use Rattle.std.specs.List.{AllByRecursion as Each, range_with_len, flat_map}
 use Rattle.soup.specs.HeightField.{at_places, vertex_at, square_at, height_field}
-use Rattle.soup.proofs.Places.{row_all}
+use Rattle.soup.proofs.ForCallers.{row_all}
 use Rattle.off_text.specs.Text.{IsOfTriples}
 
 each_place : {X : Type 0} (P : X → Type 0) (n : ℕ) (f : ℕ → ℕ → List X) → ((i j : ℕ) → Each P (f i j)) → Each P (at_places n f)

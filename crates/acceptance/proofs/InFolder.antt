@@ -6,7 +6,7 @@ use Rattle.soup.specs.declared.raw.Raw.{Raw}
 use Rattle.soup.specs.declared.raw.Soup.{Soup}
 use Rattle.soup.specs.Placement.{placed}
 use Rattle.soup.specs.HeightField.{height_field}
-use Rattle.soup.proofs.Heights.{height_field-IsRaw, height_field_extent}
+use Rattle.soup.proofs.ForCallers.{height_field-IsRaw, height_field_extent}
 use Rattle.off_text.specs.Text.{off_text}
 use Rattle.off_text.proofs.ReadBack.{read_back}
 use Rattle.msh_text.specs.declared.file_mesh.MshMesh.{MshMesh}
@@ -19,7 +19,7 @@ use Rattle.tet_words.specs.Facts.{AreDifferent}
 use Rattle.tet_words.specs.Words.{kept_names}
 use Rattle.inputs.specs.Readings.{Gives, most_bytes, file, ◌>>=◌}
 use Rattle.inputs.specs.Texts.{raw_of, soup_file}
-use Rattle.inputs.proofs.Soups.{soup_fits}
+use Rattle.inputs.proofs.ForCallers.{soup_fits}
 use Rattle.checking.specs.Cases.{check_inputs}
 use Rattle.outputs.specs.declared.asked.Asked.{Asked}
 use Rattle.outputs.specs.declared.asked.Names.{Names}

@@ -203,9 +203,3 @@ insertions-good triangles e l (t ∷ ts) m last (o ∷ os) h is =
     let step = insertion-good triangles t e l m is.0 o h is.1 in
     let rest = insertions-good triangles e l ts is.0 last os step.mesh is.2 in
     record { mesh = rest.mesh; outcomes_are = (step.outcome, rest.outcomes_are) }
-
-pub one_each : (triangles : List Tri) (e : ℕ) (numbers : List ℕ) (m last : Mesh) (outcomes : List Outcome) → AreInserted triangles e numbers m outcomes last → length outcomes ≡ length numbers
-one_each triangles e [] m last [] is = refl
-one_each triangles e [] m last (o ∷ os) is = absurd is
-one_each triangles e (t ∷ ts) m last [] is = absurd is
-one_each triangles e (t ∷ ts) m last (o ∷ os) is = ap suc (one_each triangles e ts is.0 last os is.2)

@@ -14,7 +14,7 @@ use Rattle.mesh_types.specs.declared.tries.Verdict.TheVariants.{Kept, Refused}
 use Rattle.mesh_types.specs.declared.tries.Why.TheVariants as why
 use Rattle.mesh_types.specs.declared.tries.TryLine.{TryLine}
 use Rattle.mesh_types.specs.Journals.{line, after, last_mesh, line_at, try_at, mesh_at, FollowRule}
-use Rattle.mesh_types.specs.Tries.{is_candidate, is_before, IsNext, above, around, tets_at_edge, tets_at_point}
+use Rattle.mesh_types.specs.Tries.{is_candidate, tets_at_edge, tets_at_point}
 use Rattle.mesh_types.specs.Verdicts.{Setting, IsVerdict}
 use Rattle.mesh_types.proofs.Candidates.{split_is, collapse_is, edge_swap_is, face_swap_is, shift_is}
 use Rattle.mesh_types.proofs.Each.{Each-weaker}
@@ -22,6 +22,7 @@ use Rattle.mesh_types.proofs.Inside.{inside_law}
 use Rattle.mesh_types.proofs.Replaced.{has_first}
 use Rattle.mesh_types.proofs.TriesLaw.{tries_law}
 use Rattle.mesh_types.proofs.WellFormed.{below_each}
+use Rattle.mesh_types.proofs.OneJournal.{candidate-at}
 use Rattle.report_text.specs.Plain.{IsPlainTry, ArePlainTries}
 use Rattle.acceptance.proofs.Insertions.{IsGoodMesh}
 use Rattle.acceptance.proofs.Corners.{corner_present}
@@ -100,18 +101,7 @@ last-push : (l : ℕ) (m : Mesh) (ts : List TryLine) (t : TryLine) → last_mesh
 last-push l m [] t = refl
 last-push l m (u ∷ ts) t = last-push l (after l m u) ts t
 
-next_candidate : (tets : List (List ℕ)) (t u : Try) → IsNext tets t u → is_candidate tets u ≡ true
-next_candidate tets t u (above h) = (and_parts (is_before t u) (is_candidate tets u) h.passed).1
-next_candidate tets t u (around none h) = h.passed
-
 module _ (s : Setting) (m : Mesh) (budget : ℕ) (lines : List TryLine) (follow : FollowRule s m budget lines) (good : IsGoodMesh s.side m) where
-  candidate : (i : ℕ) → i < length lines → is_candidate (mesh_at s.side m lines i).tets (try_at lines i) ≡ true
-  candidate zero lt = (follow.starts lt).passed
-  candidate (suc i) lt =
-      let next : suc i ≡ i + 1 = omega arith in
-      subst (λ k. is_candidate (mesh_at s.side m lines k).tets (try_at lines k) ≡ true) (sym next)
-      (next_candidate (mesh_at s.side m lines (i + 1)).tets (try_at lines i) (try_at lines (i + 1)) (follow.goes_on i (omega (arith, lt))))
-
   mesh-next : (i : ℕ) → i < length lines → mesh_at s.side m lines (i + 1) ≡ after s.side (mesh_at s.side m lines i) (line_at lines i)
   mesh-next i lt = ap (last_mesh s.side m) (take_more lines i (line (Split 0 0) Kept) lt) ∙ last-push s.side m (take i lines) (line_at lines i)
 
@@ -122,11 +112,11 @@ module _ (s : Setting) (m : Mesh) (budget : ℕ) (lines : List TryLine) (follow 
       let next : i + 1 ≡ suc i = omega arith in
       let here = good_at i (omega (arith, le)) in
       subst (λ k. IsGoodMesh s.side (mesh_at s.side m lines k)) next
-      (subst (IsGoodMesh s.side) (sym (mesh-next i lt)) (try_good s (mesh_at s.side m lines i) (try_at lines i) (line_at lines i).verdict here (candidate i lt) (follow.verdicts i lt)))
+      (subst (IsGoodMesh s.side) (sym (mesh-next i lt)) (try_good s (mesh_at s.side m lines i) (try_at lines i) (line_at lines i).verdict here (candidate-at s m budget lines follow i lt) (follow.verdicts i lt)))
 
   pub journal_mesh : IsGoodMesh s.side (last_mesh s.side m lines)
   journal_mesh = subst (λ ts. IsGoodMesh s.side (last_mesh s.side m ts)) (take_all (length lines) lines (omega arith)) (good_at (length lines) (omega arith))
 
   pub journal_tries : ArePlainTries lines
   journal_tries = All-from_get_or (λ (t : TryLine). IsPlainTry t.attempt) lines (line (Split 0 0) Kept)
-      (λ i lt. plain_try s.side (mesh_at s.side m lines i) (good_at i (omega (arith, lt))) (try_at lines i) (candidate i lt))
+      (λ i lt. plain_try s.side (mesh_at s.side m lines i) (good_at i (omega (arith, lt))) (try_at lines i) (candidate-at s m budget lines follow i lt))

@@ -17,7 +17,8 @@ mod Journals
 mod Parts
 mod Allowed
 -- both
-pub mod Acceptable
+mod Acceptable
 -- in a folder
 mod FieldTriples
-pub mod InFolder
+mod InFolder
+pub mod ForCallers

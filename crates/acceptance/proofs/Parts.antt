@@ -13,11 +13,12 @@ use Rattle.mesh_types.specs.declared.tries.End.{End}
 use Rattle.mesh_types.specs.declared.tries.TryLine.{TryLine}
 use Rattle.mesh_types.specs.Turns.{rolled_back}
 use Rattle.mesh_types.specs.Verdicts.{Setting}
+use Rattle.mesh_types.proofs.OneOutcome.{one-each}
 use Rattle.report_text.specs.declared.report.Second.{Second}
 use Rattle.report_text.specs.Plain.{IsPlainOutcome, IsPlainAgain, ArePlainTries, IsPlainSecond}
 use Rattle.mesher.specs.Meshed.{IsPart, IsSecondOrNone}
 use Rattle.cert_check.specs.Faults.{AreRolledBack}
-use Rattle.acceptance.proofs.Insertions.{IsGoodMesh, insertions-good, one_each}
+use Rattle.acceptance.proofs.Insertions.{IsGoodMesh, insertions-good}
 use Rattle.acceptance.proofs.Journals.{journal_mesh, journal_tries}
 
 -- ---- one part
@@ -35,7 +36,7 @@ part_good s numbers budget start last outcomes lines end good part =
     record {
       mesh = subst (IsGoodMesh s.side) (sym part.mesh) (journal_mesh s part.between budget lines follow steps.mesh);
       outcomes_are = steps.outcomes_are;
-      one_each = one_each s.triangles s.epsilon numbers start part.between outcomes part.inserted;
+      one_each = one-each s.triangles s.epsilon numbers start part.between outcomes part.inserted;
       tries_are = journal_tries s part.between budget lines follow steps.mesh;
       few = follow.few;
     }

@@ -9,8 +9,7 @@ use Rattle.soup.specs.declared.raw.Raw.{Raw}
 use Rattle.soup.specs.declared.raw.Soup.{Soup}
 use Rattle.soup.specs.Limits.{IsRaw, largest_coordinate}
 use Rattle.soup.specs.Placement.{extent, room, side, placed, placed_triangle, least, start_along, start, IsInItsBox}
-use Rattle.soup.proofs.Boxed.{in_its_box, least_side, side_is}
-use Rattle.soup.proofs.Ranges.{AreAlong, least-IsWithin, along_x, along_y, along_z}
+use Rattle.soup.proofs.ForCallers.{in_its_box, least_side, side_is, AreAlong, least-IsWithin, along_x, along_y, along_z}
 
 -- no coordinate of the shift is above this in absolute value
 abbrev pub most_shift : ℕ

@@ -3,7 +3,7 @@ use Rattle.std.proofs.Common.{◌≡◌, ℕ, ◌+◌, ◌*◌, ◌/◌, ◌%◌
 use Rattle.std.specs.List.{list_all}
 use Rattle.grid.specs.Boxes.{Axis, along_x, along_y, along_z}
 use Rattle.grid.specs.Simplices.{faces}
-use Rattle.mesh_types.specs.Lattice.{number_at, cube, paths}
+use Rattle.mesh_types.specs.Lattice.{number_at, paths}
 
 -- a place of the lattice, or of a corner in its cube
 pub record Place : Type 0 where
@@ -43,10 +43,6 @@ kind_of f = record { a = corner 0; b = corner 0; c = corner 0 }
 
 abbrev pub kinds : List Kind
 kinds = map kind_of (flat_map faces (paths (λ x y z. x + 2 * y + 4 * z)))
-
--- the faces of a cube are those of the 24 kinds
-pub cube-faces : (n i j k : ℕ) → flat_map faces (cube n i j k) ≡ map (face_at n (place i j k)) kinds
-cube-faces n i j k = refl
 
 -- ---- tests of kinds
 abbrev pub small : Place → Bool

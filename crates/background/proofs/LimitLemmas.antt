@@ -7,11 +7,8 @@ use Rattle.int_algebra.proofs.Laws.{linear}
 use native.Mathlib.Nat.{pow-le-pow_right, mul-div_cancel_left, div-le_self}
 use Rattle.grid.specs.Limits.{IsCells, IsSide}
 
-power_most : (p q : ℕ) → p ≤ q → 2 ^ p ≤ 2 ^ q
-power_most p q h = pow-le-pow_right (lit≤ tt) h
-
 pub cells_most : (n : ℕ) → IsCells n → n ≤ 32
-cells_most n c = omega (arith, c.is, power_most c.power 5 c.power_most)
+cells_most n c = let most : 2 ^ c.power ≤ 2 ^ 5 = pow-le-pow_right (lit≤ tt) c.power_most in omega (arith, c.is, most)
 
 pub cells_positive : (n : ℕ) → IsCells n → 0 < n
 cells_positive n c = omega (arith, c.is, pow_pos c.power)
@@ -20,7 +17,7 @@ pub side_nat : (side : ℤ) (s : IsSide side) → nat_abs side ≡ 2 ^ s.power
 side_nat side s = ap nat_abs s.is
 
 pub side_most : (side : ℤ) → IsSide side → nat_abs side ≤ 262144
-side_most side s = omega (arith, side_nat side s, power_most s.power 18 s.power_most)
+side_most side s = let most : 2 ^ s.power ≤ 2 ^ 18 = pow-le-pow_right (lit≤ tt) s.power_most in omega (arith, side_nat side s, most)
 
 pub side_room : (side : ℤ) (n : ℕ) → IsSide side → pos (4 * n) ≤ℤ side → 4 * n ≤ nat_abs side
 side_room side n s h = let e = s.is in let f = side_nat side s in omega (arith, linear, subst (λ z. pos (4 * n) ≤ℤ z) e h, f)

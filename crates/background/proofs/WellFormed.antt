@@ -2,12 +2,12 @@
 use Rattle.std.proofs.Common.{◌≡◌, ◌≢◌, ℕ, ◌+◌, ◌*◌, ◌<◌, ◌≤◌, Bool, true, false, not, ◌&&◌, nat_eq, pos, [], ◌∷◌, length, All, refl, sym, ◌∙◌, subst, arith}
 use Rattle.std.proofs.lemmas.List.Elements.{All-from_recursion, All-nil}
 use Rattle.std.proofs.lemmas.Bool.{and_parts, both_ways, not-true}
-use Rattle.int_algebra.proofs.Laws.{linear}
 use native.Mathlib.Nat.{mul-le-mul, mul-le-mul_left, mul-le-mul_right}
 use Rattle.grid.specs.Boxes.{IsUpTo, IsInBox}
 use Rattle.grid.specs.Meshes.{IsTriple, IsWellFormed, IsWithinLimits}
 use Rattle.grid.specs.Simplices.{AreDifferent, IsTet}
 use Rattle.mesh_types.specs.Lattice.{number_at, cube, point, tet, lattice_points, lattice_tets}
+use Rattle.mesh_types.proofs.Inside.{IsUpTo-pos}
 use Rattle.background.proofs.Gather.{number_is, length-at_places, All-at_places}
 use Rattle.background.proofs.FaceKinds.{Place, place, at, small, same_place}
 use Rattle.background.proofs.Places.{IsBelow, IsSmall, small-IsSmall, at-same, same_place-from}
@@ -104,15 +104,12 @@ spaced-IsWellFormed h n = record {
 }
 
 -- ---- the points are in the box
-up_to : (l i : ℕ) → i ≤ l → IsUpTo l (pos i)
-up_to l i h = record { low = omega (arith, linear); high = omega (arith, linear, h) }
-
 pub spaced-IsInBox : (h n : ℕ) → All (IsInBox (n * h)) (lattice_points h n)
 spaced-IsInBox h n = All-at_places (IsInBox (n * h)) (n + 1) (λ i j k. point (i * h) (j * h) (k * h) ∷ [])
     (λ i j k a b c. All-from_recursion (IsInBox (n * h)) (point (i * h) (j * h) (k * h) ∷ []) (record { x_in = times i a; y_in = times j b; z_in = times k c }, tt))
   where
     times : (i : ℕ) → i < n + 1 → IsUpTo (n * h) (pos (i * h))
-    times i l = up_to (n * h) (i * h) (mul-le-mul_right h (omega arith))
+    times i l = IsUpTo-pos (n * h) (i * h) (mul-le-mul_right h (omega arith))
 
 -- ---- the limits
 cubes_most : (m k : ℕ) → m ≤ k → m * m * m ≤ k * k * k

@@ -2,7 +2,7 @@
 use Rattle.std.proofs.Common.{◌≡◌, ◌↔◌, ℕ, zero, suc, ◌+◌, ◌<◌, ◌≤◌, Bool, true, false, List, [], ◌∷◌, length, map, get_or, cond, refl, ap, sym, subst, ◌∙◌, inl, inr, arith, All, ℤ, pos, ◌+ℤ◌, ◌-ℤ◌, true≢false}
 use Rattle.std.specs.Prelude.{filter, slice_index_or, IsTrue, nat_eq, unsigned_abs}
 use Rattle.std.specs.List.{enumerate_from, zip, AllByRecursion, Contains}
-use Rattle.std.proofs.lemmas.Bool.{or_cases}
+use Rattle.std.proofs.lemmas.Bool.{or_cases, or_left, or_right}
 use Rattle.std.proofs.lemmas.Bool.Decides.{Decides-eqb}
 use Rattle.std.proofs.lemmas.List.{length-map, get_or_default}
 use Rattle.std.proofs.lemmas.List.Elements.{All-cons, All-nil, All-from_recursion, Contains-append_cases}
@@ -27,12 +27,9 @@ use Rattle.msh_text.specs.declared.file_mesh.MshNode.{MshNode}
 use Rattle.msh_text.specs.FileMesh.{AreInRange, file_numbers, is_used, node_of, msh_nodes, tet_of, msh_tets, face_of, msh_tracked, msh_of}
 use Rattle.cert_check.specs.FileMesh.{file_tets, node_at, node_point, points_from, triangle_at}
 use Rattle.cert_check.proofs.Numbers.{points_from-node}
-use Rattle.cert_check.proofs.Renumbered.{more, HaveSamePoints, Tiles-more, outside_more, outside_less, or_left, or_right}
+use Rattle.cert_check.proofs.Renumbered.{more, HaveSamePoints, Tiles-more, outside_more, outside_less}
 
 -- ---- points
-abbrev no_node : MshNode
-no_node = record { number = 0; at = [] }
-
 -- the nodes of the points from number k on that some tetrahedron has
 abbrev nodes_from : List (List ℕ) → List ℤ → ℕ → List Point → List MshNode
 nodes_from tets shift k points = map (node_of shift) (filter (λ p. is_used tets p.0) (enumerate_from k points))

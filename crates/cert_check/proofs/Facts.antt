@@ -1,13 +1,14 @@
 -- What the conditions give: the side, points in the box, and corners that are points.
 use Rattle.std.proofs.Common.{◌≡◌, ℕ, ◌+◌, ◌-◌, ◌*◌, ◌^◌, ◌<◌, ◌≤◌, ◌==◌, ◌||◌, max, true, List, [], ◌∷◌, length, replicate, map, get_or, ap, sym, subst, ◌∙◌, inl, inr, ℤ, pos, suc, arith, lit≤, mul-le-mul, All, length-append, SFits, w32, to_z, of_z, to_z-of_z, true≢false}
-use Rattle.std.specs.Prelude.{unsigned_abs, Result, Ok, Err, IfOk}
+use Rattle.std.specs.Prelude.{unsigned_abs}
 use Rattle.std.proofs.lemmas.Bool.{cases_lt, cases_Bool}
 use Rattle.std.proofs.lemmas.Bool.Decides.{Decides-eqb}
 use Rattle.std.proofs.lemmas.Int.{ints}
 use Rattle.std.proofs.lemmas.List.{get_or_default, length-replicate, length-map}
 use Rattle.std.proofs.lemmas.List.Elements.{All-append, All-cons, All-map, All-nil, All-replicate}
 use Rattle.std.proofs.Math.ListN.{get_or-map}
-use native.Mathlib.Nat.{pow-le-pow_right, pow-suc, pow-zero, one-mul}
+use Rattle.soup.proofs.ForCallers.{IsInBox-wider}
+use native.Mathlib.Nat.{pow-le-pow_right, pow-suc, pow-zero}
 use mir.Syntax.{w128}
 use Rattle.int_algebra.proofs.Bounds.{fits_within, within_natural}
 use Rattle.grid.specs.declared.shapes.Point.{Point}
@@ -40,11 +41,6 @@ equal_lengths m n f g = elim (cases_lt m n) [
   ]
 ]
 
--- what follows from each value of an Ok
-pub ok_then : {X E : Type 0} (r : Result X E) (P Q : X → Type 0) → ((x : X) → P x → Q x) → IfOk r P → IfOk r Q
-ok_then (Ok x) P Q f h = f x h
-ok_then (Err e) P Q f h = tt
-
 -- ---- the side
 pub side-nat : (side : ℤ) (s : IsSide side) → unsigned_abs side ≡ 2 ^ s.power
 side-nat side s = ap unsigned_abs s.is
@@ -69,18 +65,12 @@ pub cube-few : (n : ℕ) → n ≤ 262144 → n * n * n ≤ 18014398509481984
 cube-few n h = mul-le-mul (mul-le-mul h h) h
 
 pub cube-is : (n : ℕ) → n ^ 3 ≡ n * n * n
-cube-is n = pow-suc n 2 ∙ ap (λ m. m * n) (pow-suc n 1 ∙ ap (λ m. m * n) (pow-suc n 0 ∙ ap (λ m. m * n) (pow-zero n) ∙ one-mul n))
+cube-is n = rw (pow-suc n 2, pow-suc n 1, pow-suc n 0, pow-zero n) (omega arith)
 
 pub kept-cube : (n : ℕ) → n ≤ 262144 → to_z w128 (6 * (n * n * n)) ≡ pos (6 * (n * n * n))
 kept-cube n h = let few = cube-few n h in omega (arith, ints, few)
 
 -- ---- points in the box
-wider : (l : ℕ) (z : ℤ) → l ≤ 262144 → IsUpTo l z → IsUpTo 262144 z
-wider l z le h = record { low = h.low; high = omega (arith, ints, h.high, le) }
-
-pub IsInBox-wider : (l : ℕ) (p : Point) → l ≤ 262144 → IsInBox l p → IsInBox 262144 p
-IsInBox-wider l p le h = record { x_in = wider l p.x le h.x_in; y_in = wider l p.y le h.y_in; z_in = wider l p.z le h.z_in }
-
 origin-in : IsInBox 262144 origin
 origin-in =
     let zero_in : IsUpTo 262144 (pos 0) = record { low = omega (arith, ints); high = omega (arith, ints) } in
@@ -120,7 +110,7 @@ points-all shift given points e h =
 -- nodes in the box of the side lie in the largest box
 pub nodes-in : (l : ℕ) (shift : List ℤ) (given nodes : List MshNode) → given ≡ nodes → l ≤ 262144 → ((i : ℕ) → i < length nodes → IsInBox l (node_point shift (node_at nodes i)))
     → (i : ℕ) → i < length given → IsInBox 262144 (node_point shift (node_at given i))
-nodes-in l shift given nodes e few h = subst (λ ns. (i : ℕ) → i < length ns → IsInBox 262144 (node_point shift (node_at ns i))) (sym e) (λ i lt. IsInBox-wider l _ few (h i lt))
+nodes-in l shift given nodes e few h = subst (λ ns. (i : ℕ) → i < length ns → IsInBox 262144 (node_point shift (node_at ns i))) (sym e) (λ i lt. IsInBox-wider l 262144 _ few (h i lt))
 
 pub corners-all : {X : Type 0} (corners : X → List ℕ) (shift : List ℤ) (nodes : List MshNode) (points : List Point) (xs ys : List X) → points ≡ points_from shift 0 nodes → ys ≡ xs → All (λ x. All (λ c. is_node nodes c ≡ true) (corners x)) xs → All (λ x. All (λ c. c < length points) (corners x)) ys
 corners-all corners shift nodes points xs ys e f h =

@@ -1,17 +1,18 @@
-pub mod Places
-pub mod Volumes
-pub mod Keys
-pub mod Nodes
-pub mod Headers
-pub mod RolledBack
-pub mod MeshRules
-pub mod ReportRules
-pub mod Facts
-pub mod Numbers
-pub mod Turned
-pub mod Passing
-pub mod Renumbered
-pub mod Accepted
-pub mod Steps
-pub mod Soundness
-pub mod OneFinding
+mod Places
+mod Volumes
+mod Keys
+mod Nodes
+mod Headers
+mod RolledBack
+mod MeshRules
+mod ReportRules
+mod Facts
+mod Numbers
+mod Turned
+mod Passing
+mod Renumbered
+mod Accepted
+mod Steps
+mod Soundness
+mod OneFinding
+pub mod ForCallers

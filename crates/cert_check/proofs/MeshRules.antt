@@ -13,7 +13,7 @@ use Rattle.msh_text.specs.declared.file_mesh.MshTet.{MshTet}
 use Rattle.msh_text.specs.declared.file_mesh.MshMesh.{MshMesh}
 use Rattle.msh_text.specs.declared.file_mesh.Elements.{Elements}
 use Rattle.msh_text.specs.Rules.{corner, last_corner, is_node, node_rule, more_nodes, last_number, tet_rule, triangle_rule, more_tets, more_triangles, more_elements, no_elements, msh_rules}
-use Rattle.msh_text.proofs.Reading.{elements_grow, last_number_is}
+use Rattle.msh_text.proofs.ForCallers.{elements_grow, last_number_is}
 use Rattle.cert_check.specs.Conditions.{IsNode, IsMshMesh}
 
 -- ---- repetitions

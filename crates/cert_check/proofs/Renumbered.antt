@@ -2,7 +2,7 @@
 use Rattle.std.proofs.Common.{◌≡◌, ℕ, zero, suc, ◌+◌, ◌-◌, ◌<◌, ◌≤◌, ◌&&◌, ◌||◌, Bool, true, false, List, [], ◌∷◌, ◌++◌, length, map, get_or, cond, refl, ap, sym, subst, ◌∙◌, inl, inr, arith, All, pos, ◌+ℤ◌, ◌<ℤ◌, ◌⊎◌, true≢false}
 use Rattle.std.specs.Prelude.{nat_eq, nat_lt}
 use Rattle.std.specs.List.{Contains}
-use Rattle.std.proofs.lemmas.Bool.{cases_Bool, or_cases}
+use Rattle.std.proofs.lemmas.Bool.{cases_Bool, or_cases, or_left, or_right}
 use Rattle.std.proofs.lemmas.Bool.Decides.{Decides-eqb, Decides-ltb}
 use Rattle.std.proofs.lemmas.List.Sums.{sum_by-cons}
 use Rattle.std.proofs.lemmas.List.{map-append, length-map, get_or_default}
@@ -17,6 +17,7 @@ use Rattle.grid.specs.Meshes.{Mesh, Tiles}
 use Rattle.face_table.specs.Occurrences.{occurrences}
 use Rattle.face_table.proofs.RotationLemmas.{has-rotation, has3-first, has3-second, has3-third, occurrences-append}
 use Rattle.mesh_types.proofs.FaceCorners.{no-face}
+use Rattle.mesh_types.proofs.Replaced.{same_bools}
 use Rattle.msh_text.specs.FileMesh.{file_numbers, is_used}
 
 -- lists of corners by the numbers of the file
@@ -38,18 +39,13 @@ all_faces-more (x ∷ tets) =
     ap (λ fs. fs ++ all_faces (more tets)) (faces-more x) ∙ ap (λ fs. more (faces x) ++ fs) (all_faces-more tets) ∙ sym (map-append file_numbers (faces x) (all_faces tets))
 
 -- ---- tests of numbers
-same_test : (b c : Bool) → (b ≡ true → c ≡ true) → (c ≡ true → b ≡ true) → b ≡ c
-same_test true c f g = sym (f refl)
-same_test false true f g = g refl
-same_test false false f g = refl
-
 same_number : (a b : ℕ) → nat_eq (a + 1) (b + 1) ≡ nat_eq a b
 same_number a b =
-    same_test (nat_eq (a + 1) (b + 1)) (nat_eq a b) (λ e. (Decides-eqb a b).1 (omega (arith, (Decides-eqb (a + 1) (b + 1)).0 e))) (λ e. (Decides-eqb (a + 1) (b + 1)).1 (omega (arith, (Decides-eqb a b).0 e)))
+    same_bools (nat_eq (a + 1) (b + 1)) (nat_eq a b) (λ e. (Decides-eqb a b).1 (omega (arith, (Decides-eqb (a + 1) (b + 1)).0 e))) (λ e. (Decides-eqb (a + 1) (b + 1)).1 (omega (arith, (Decides-eqb a b).0 e)))
 
 below_number : (a b : ℕ) → nat_lt (a + 1) (b + 1) ≡ nat_lt a b
 below_number a b =
-    same_test (nat_lt (a + 1) (b + 1)) (nat_lt a b) (λ e. (Decides-ltb a b).1 (omega (arith, (Decides-ltb (a + 1) (b + 1)).0 e))) (λ e. (Decides-ltb (a + 1) (b + 1)).1 (omega (arith, (Decides-ltb a b).0 e)))
+    same_bools (nat_lt (a + 1) (b + 1)) (nat_lt a b) (λ e. (Decides-ltb a b).1 (omega (arith, (Decides-ltb (a + 1) (b + 1)).0 e))) (λ e. (Decides-ltb (a + 1) (b + 1)).1 (omega (arith, (Decides-ltb a b).0 e)))
 
 not_zero : (a : ℕ) → nat_eq (a + 1) 0 ≡ false
 not_zero a = elim (cases_Bool (nat_eq (a + 1) 0)) [
@@ -126,14 +122,6 @@ HaveSamePoints tets given points = (u : ℕ) → is_used tets u ≡ true → poi
 -- the same of one tetrahedron
 abbrev Agree : List ℕ → (given points : List Point) → Type 0
 Agree x given points = (u : ℕ) → has x u ≡ true → point_at given (u + 1) ≡ point_at points u
-
-pub or_left : (a b : Bool) → a ≡ true → (a || b) ≡ true
-or_left true b e = refl
-or_left false b e = absurd (true≢false (sym e))
-
-pub or_right : (a b : Bool) → b ≡ true → (a || b) ≡ true
-or_right true b e = refl
-or_right false b e = e
 
 first_agrees : (x : List ℕ) (tets : List (List ℕ)) (given points : List Point) → HaveSamePoints (x ∷ tets) given points → Agree x given points
 first_agrees x tets given points h u e = h u (or_left (has x u) (is_used tets u) e)

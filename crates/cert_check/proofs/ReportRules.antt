@@ -4,22 +4,17 @@ use Rattle.std.specs.Prelude.{codes}
 use Rattle.std.proofs.lemmas.List.{length-append}
 use Rattle.lines.specs.Forms.{Reads}
 use Rattle.lines.specs.Fields.{Between}
-use Rattle.mesh_types.specs.declared.outcome.Outcome.{Outcome}
 use Rattle.report_text.specs.declared.kinds.PartKind.{PartKind}
 use Rattle.report_text.specs.declared.kinds.PartKind.TheVariants as part_kinds
 use Rattle.report_text.specs.declared.report.Covering.{Covering}
 use Rattle.report_text.specs.declared.report.Second.{Second}
 use Rattle.report_text.specs.declared.report.Report.{Report}
 use Rattle.report_text.specs.Rules.{more_outcomes, more_faces, part_behind, second_part, report_rules}
-use Rattle.report_text.proofs.OneReading.{named_is}
+use Rattle.report_text.proofs.ForCallers.{named_is, outcomes_grow}
 use Rattle.cert_check.specs.Conditions.{IsReport}
 use Rattle.cert_check.proofs.MeshRules.{repeat_keeps}
 
--- one more line each
-outcomes_grow : (side : ℕ) (shift : List ℤ) (n : ℕ) (before after : List Outcome) (bytes rest : List ℕ) → length before + suc n ≤ 2 ^ 20 → Reads (more_outcomes side shift before) bytes after rest → length after + n ≤ 2 ^ 20
-unfolding Reads more_outcomes
-outcomes_grow side shift n before after bytes rest room h = omega (arith, room, ap length h.3.3.3.0, length-append before (h.3.3.0 ∷ []))
-
+-- one more line
 faces_grow : (n : ℕ) (before after : List Covering) (bytes rest : List ℕ) → length before + suc n ≤ 2 ^ 24 → Reads (more_faces before) bytes after rest → length after + n ≤ 2 ^ 24
 unfolding Reads more_faces
 faces_grow n before after bytes rest room h = omega (arith, room, ap length h.3.3.3.3.3.0, length-append before (record { face = record { 0 = h.3.0 ∷ h.3.3.0 ∷ h.3.3.3.0 ∷ [] }; cert = h.3.3.3.3.0 } ∷ []))

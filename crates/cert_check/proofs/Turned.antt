@@ -5,15 +5,13 @@ use Rattle.std.proofs.lemmas.Bool.{cases_lt}
 use Rattle.std.proofs.lemmas.List.{take_more, take_all}
 use Rattle.std.proofs.lemmas.List.Elements.{All-append, All-cons, All-nil}
 use Rattle.std.proofs.Math.Seq.{take-add}
+use Rattle.mesh_types.proofs.Same.{rotation_still}
 use Rattle.grid.specs.Simplices.{all_faces, faces, is_rotation}
 use Rattle.face_table.specs.Occurrences.{occurrences}
 use Rattle.face_table.specs.Pairing.{NoneTwice, LooseHave, IsFirstRepeat, IsFirstLooseWithout, face_at}
 use Rattle.face_table.proofs.RotationLemmas.{occurrences-append, occurrences-push}
 
 -- ---- faces of tetrahedra are triples
-self3 : (a b c : ℕ) → is_rotation (a ∷ b ∷ c ∷ []) (a ∷ b ∷ c ∷ []) ≡ true
-self3 a b c = grind arith
-
 -- a face that is a rotation of itself: one of three corners
 abbrev IsTurn : List ℕ → Type 0
 IsTurn f = is_rotation f f ≡ true
@@ -32,7 +30,7 @@ faces-turn (a ∷ b ∷ c ∷ d ∷ []) =
     let g = a ∷ b ∷ d ∷ [] in
     let h = a ∷ d ∷ c ∷ [] in
     let k = b ∷ c ∷ d ∷ [] in
-    All-cons IsTurn f (g ∷ h ∷ k ∷ []) (self3 a c b) (All-cons IsTurn g (h ∷ k ∷ []) (self3 a b d) (All-cons IsTurn h (k ∷ []) (self3 a d c) (All-cons IsTurn k [] (self3 b c d) (All-nil IsTurn))))
+    All-cons IsTurn f (g ∷ h ∷ k ∷ []) (rotation_still a c b) (All-cons IsTurn g (h ∷ k ∷ []) (rotation_still a b d) (All-cons IsTurn h (k ∷ []) (rotation_still a d c) (All-cons IsTurn k [] (rotation_still b c d) (All-nil IsTurn))))
 faces-turn (a ∷ b ∷ c ∷ d ∷ e ∷ x) = All-nil IsTurn
 
 all_faces-turn : (tets : List (List ℕ)) → All IsTurn (all_faces tets)

@@ -71,7 +71,7 @@ tri_of points f =
     triangle (point_at points (slice_index_or f 0 0)) (point_at points (slice_index_or f 1 0)) (point_at points (slice_index_or f 2 0))
 
 -- the covering is of that face, and its certificate covers it
-pub record IsCoveringOf (triangles : List Tri) (e : ℕ) (points : List Point) (face : Face) (covering : Covering) : Type 0 where
+pub record IsCoveringOfFace (triangles : List Tri) (e : ℕ) (points : List Point) (face : Face) (covering : Covering) : Type 0 where
   pub same : covering.face ≡ face
   pub covers : Covers triangles e most_levels 0 (tri_of points face.0) covering.cert
 
@@ -79,7 +79,7 @@ pub record IsCoveringOf (triangles : List Tri) (e : ℕ) (points : List Point) (
 pub record IsCovered (triangles : List Tri) (e : ℕ) (points : List Point) (tracked : List Face) (faces : List Covering) (i : ℕ) : Type 0 where
   pub in_mesh : i < length tracked
   pub in_report : i < length faces
-  pub covering : HoldsAt (IsCoveringOf triangles e points (triangle_at tracked i)) faces i
+  pub covering : HoldsAt (IsCoveringOfFace triangles e points (triangle_at tracked i)) faces i
 
 -- the tag is 2 where the tetrahedron is outside, and 1 where it is kept
 pub record IsTagOf (tets tracked : List (List ℕ)) (t : MshTet) : Type 0 where

@@ -2,7 +2,7 @@
 
 ghost use Rattle.std.specs.Prelude.{◌≡◌, ◌↔◌, ℕ, ◌+◌, ◌^◌, ◌<◌, ◌≤◌, max, length, All, IsTrue};
 ghost use Rattle.grid.specs.Boxes.{IsInBox, IsTriInBox};
-ghost use Rattle.cert_check.specs.Faults.{IsCovered, IsCoveringOf, tri_of};
+ghost use Rattle.cert_check.specs.Faults.{IsCovered, IsCoveringOfFace, tri_of};
 ghost use Rattle.cert_check.specs.Firsts.{IsFirstOrNone};
 
 use cover::check;
@@ -30,7 +30,7 @@ fn is_covering_of(
     requires e { e ≤ 4095 }
     requires points { All (IsInBox (2 ^ 18)) points.now }
     requires face { All (λ c. c < length points.now) face.now.0 }
-    ensures { IsTrue result ↔ IsCoveringOf triangles.now e points.now face.now covering.now }
+    ensures { IsTrue result ↔ IsCoveringOfFace triangles.now e points.now face.now covering.now }
 {
     if covering.face != *face {
         return false;

@@ -10,14 +10,12 @@ use Rattle.inputs.specs.declared.issue.InputIssue.{InputIssue}
 use Rattle.inputs.specs.Readings.{Gives}
 use Rattle.inputs.specs.Texts.{SaysSoup, SaysMesh, SaysReport, soup_in}
 use Rattle.inputs.specs.Answers.{Reads, issue_line, issue_status}
-use Rattle.inputs.proofs.Ones.{IsOne, known-IsOne, file-IsOne, then-IsOne}
-use Rattle.inputs.proofs.Inputs.{soup-SaysOne, mesh-SaysOne, report-SaysOne}
-use Rattle.inputs.proofs.Answering.{differ, nothing, answers_issue, answers_memory, answers_served, known_status, other_status, accepted_not}
+use Rattle.inputs.proofs.ForCallers.{IsOne, known-IsOne, file-IsOne, then-IsOne, soup-SaysOne, mesh-SaysOne, report-SaysOne, differ, nothing, answers_issue, answers_memory, answers_served, known_status, other_status, accepted_not}
 use Rattle.cert_check.specs.declared.fault.Finding.{Finding}
 use Rattle.cert_check.specs.declared.fault.Finding.TheVariants as findings
 use Rattle.cert_check.specs.Faults.{IsFinding}
 use Rattle.cert_check.specs.Sound.{IsSound}
-use Rattle.cert_check.proofs.OneFinding.{one_finding}
+use Rattle.cert_check.proofs.ForCallers.{one_finding}
 use Rattle.checking.specs.declared.case.Case.{Case}
 use Rattle.checking.specs.Cases.{check_inputs, judged_of}
 use Rattle.checking.specs.Lines.{finding_line, finding_status}

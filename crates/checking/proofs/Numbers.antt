@@ -1,20 +1,17 @@
 -- The numbers of a report by which its soup is placed.
-use Rattle.std.proofs.Common.{◌≡◌, ℕ, ◌≤◌, ◌^◌, Bool, true, false, ◌||◌, List, refl, sym, subst, ◌∙◌, lit≤, eqb}
+use Rattle.std.proofs.Common.{◌≡◌, ℕ, ◌≤◌, ◌^◌, true, List, refl, sym, subst, ◌∙◌, lit≤, eqb}
 use Rattle.std.specs.Prelude.{codes}
 use Rattle.std.proofs.lemmas.Bool.{true≢false, eqb-true}
+use Rattle.tet_words.proofs.Ranges.{first_or}
 use Rattle.grid.specs.Limits.{IsCells}
 use Rattle.lines.specs.Forms.{Reads}
 use Rattle.lines.specs.Fields.{Between}
 use Rattle.report_text.specs.declared.report.Report.{Report}
 use Rattle.report_text.specs.Rules.{cell_counts, is_one_of, report_rules}
 use Rattle.report_text.specs.Rules as rules
-use Rattle.report_text.proofs.OneReading.{named_is}
+use Rattle.report_text.proofs.ForCallers.{named_is}
 
 -- ---- cells
-first_or : {P : Type 0} (test others : Bool) → (test ≡ true → P) → (others ≡ true → P) → (test || others) ≡ true → P
-first_or true others here there h = here refl
-first_or false others here there h = there h
-
 power_of : (n k power : ℕ) → k ≡ 2 ^ power → power ≤ 5 → eqb k n ≡ true → IsCells n
 power_of n k power is most same = record { power = power; power_most = most; is = sym (eqb-true k n same) ∙ is }
 

@@ -10,7 +10,7 @@ use Rattle.inputs.specs.declared.issue.InputIssue.{InputIssue}
 use Rattle.inputs.specs.Readings.{Inputs, file, known, ◌>>=◌}
 use Rattle.inputs.specs.Texts.{SaysSoup, SaysMesh, SaysReport, placed_soup}
 use Rattle.inputs.specs.Answers.{Reads}
-use Rattle.inputs.proofs.Chains.{and_then, at_first, known_value}
+use Rattle.inputs.proofs.ForCallers.{and_then, at_first, known_value}
 use Rattle.checking.specs.declared.case.Case.{Case}
 use Rattle.checking.specs.Cases.{check_inputs}
 

@@ -27,14 +27,6 @@ module _ (nodes : List Node) (triangles : List Tri) (q : Query) where
   lower-AreFrom : (limit least : ℕ) (numbers : List ℕ) → least ≤ limit → AreFrom triangles q limit numbers → AreFrom triangles q least numbers
   lower-AreFrom limit least numbers le h k d lt f = le_trans le (h k d lt f)
 
-  pub seen_starts : IsSeen nodes triangles q (length nodes) (length triangles)
-  seen_starts = record {
-    end_in = omega arith;
-    limit_in = omega arith;
-    found = λ h. absurd (omega (arith, h));
-    rest = λ i d l h. absurd (omega (arith, l, h));
-  }
-
   -- a node is looked at
   pub seen_visits : (end limit least i : ℕ) → end ≡ i + 1 → IsSeen nodes triangles q end limit → least ≤ limit → (least ≡ limit) ⊎ IsFound triangles q least
       → ((d : Node) → AreFrom triangles q least (get_or nodes i d).numbers.items) → IsSeen nodes triangles q i least

@@ -1,5 +1,5 @@
-pub mod LeastLemmas
+mod LeastLemmas
 pub mod RotationLemmas
-pub mod TableLemmas
-pub mod SharedSides
-pub mod PassLemmas
+mod TableLemmas
+mod SharedSides
+mod PassLemmas

@@ -66,9 +66,6 @@ repeat-one table f h some = record {
 pub repeat-first : (faces : List (List ℕ)) (f : List ℕ) → IsRepeatAfter [] faces f → IsFirstRepeat faces f
 repeat-first faces f r = record { place = r.place; within = r.within; is = r.is; repeated = r.repeated; first = r.first }
 
-pub counted-none : (table : List (List ℕ)) → NoneTwice table → AreCounted table (table ++ [])
-counted-none table h = record { same = λ f. ap (occurrences f) (sym (append-nil table)); once = h }
-
 -- a face that is counted for the first time
 pub counted-one : (table after : List (List ℕ)) (f : List ℕ) → NoneTwice table → occurrences f table ≡ 0 → HaveSameFaces after (table ++ f ∷ []) → AreCounted after (table ++ f ∷ [])
 counted-one table after f h none same = record { same = same; once = λ g. subst (λ n. n ≤ 1) (sym (same g)) (NoneTwice-push table f h none g) }

@@ -2,7 +2,7 @@
 use Rattle.std.proofs.Common.{◌≡◌, ◌≢◌, ℕ, zero, suc, ◌*◌, ◌/◌, ◌%◌, ◌^◌, ◌<◌, ◌↔◌, min, Bool, true, false, true≢false, ℤ, pos, negsuc, not, nat_eq, IsBitSet, bit_and, List, [], ◌∷◌, length, get_or, refl, ap, sym, ◌∙◌, subst, inl, inr, arith}
 use Rattle.std.specs.Int.{bit_at}
 use Rattle.std.specs.Bool.{IsTrue}
-use Rattle.std.proofs.lemmas.Bool.{cases_Bool, cases_eq, cases_lt, both_ways, not-true, not_from_false, ne_eqb, eq-eqb}
+use Rattle.std.proofs.lemmas.Bool.{cases_Bool, cases_eq, cases_lt, both_ways, not-true, not_from_false, ne_eqb, eq-eqb, false_from_ne_true}
 use Rattle.std.proofs.lemmas.Nat.{pow_pos, and_le_l}
 use Rattle.std.proofs.lemmas.Nat.Bits.{and_pow, bit_at-suc, bit_at_lowest, bit_at-zero, bit_at-lt, bit_at_and, bit_at_above}
 use native.Mathlib.Nat.{pow-suc}
@@ -59,14 +59,10 @@ turned p = record { x = neg_ℤ p.x; y = neg_ℤ p.y; z = neg_ℤ p.z }
 int_eq-neg : (x y : ℤ) → int_eq x y ≡ int_eq (neg_ℤ x) (neg_ℤ y)
 int_eq-neg x y = elim (cases_Bool (int_eq x y)) [
   | inl t ↦ t ∙ sym ((Decides-int_eq (neg_ℤ x) (neg_ℤ y)).1 (ap neg_ℤ ((Decides-int_eq x y).0 t)))
-  | inr f ↦ f ∙ sym (not_true (int_eq (neg_ℤ x) (neg_ℤ y)) (λ t. true≢false (sym ((Decides-int_eq x y).1 (neg-injective x y ((Decides-int_eq (neg_ℤ x) (neg_ℤ y)).0 t))) ∙ f)))
+  | inr f ↦ f ∙ sym (false_from_ne_true (int_eq (neg_ℤ x) (neg_ℤ y)) (λ t. true≢false (sym ((Decides-int_eq x y).1 (neg-injective x y ((Decides-int_eq (neg_ℤ x) (neg_ℤ y)).0 t))) ∙ f)))
 ] where
   neg-injective : (a b : ℤ) → neg_ℤ a ≡ neg_ℤ b → a ≡ b
   neg-injective a b e = sym (neg_ℤ-neg_ℤ a) ∙ ap neg_ℤ e ∙ neg_ℤ-neg_ℤ b
-
-  not_true : (b : Bool) → (b ≡ true → ⊥) → b ≡ false
-  not_true true h = absurd (h refl)
-  not_true false h = refl
 
 side_bits-turned : (z : ℤ) (p : Point) → side_bits z p ≡ side_bits (neg_ℤ z) (turned p)
 side_bits-turned z p i = number_of (int_eq-neg p.x (pos 0) i ∷ int_eq-neg p.x z i ∷ int_eq-neg p.y (pos 0) i ∷ int_eq-neg p.y z i ∷ int_eq-neg p.z (pos 0) i ∷ int_eq-neg p.z z i ∷ [])

@@ -4,4 +4,4 @@ mod FacetLemmas
 mod ReachLemmas
 mod RegionLemmas
 mod Turns
-pub mod Walks
+mod Walks

@@ -3,7 +3,7 @@ use Rattle.std.proofs.Common.{◌≡◌, ℕ, ◌+◌, ◌/◌, ◌<◌, ◌≤�
 use Rattle.std.proofs.lemmas.Bool.{cases_lt}
 use Rattle.flood.specs.HalfFaces.{facet_at}
 use Rattle.flood.specs.Chains.{IsLast}
-use Rattle.flood.specs.Floods.{IsFilled, IsOn, is_marked}
+use Rattle.flood.specs.Floods.{IsOn, is_marked}
 
 -- how far back a walk still goes
 abbrev pub rank : Option ℕ → ℕ
@@ -16,9 +16,6 @@ pub record IsWalked (facet_of : List ℕ) (c : ℕ) (marks : List Bool) (next : 
   pub within : bound ≤ length facet_of
   pub next_is : IsLast facet_of c bound next
   pub marked : (h : ℕ) → bound ≤ h → h < length facet_of → facet_at facet_of h ≡ c → is_marked marks (h / 4) ≡ true
-
-pub IsWalked-starts : (facet_of : List ℕ) (c : ℕ) (marks : List Bool) (next : Option ℕ) → IsLast facet_of c (length facet_of) next → IsWalked facet_of c marks next
-IsWalked-starts facet_of c marks next is = record { bound = length facet_of; within = omega arith; next_is = is; marked = λ h after below. absurd (omega arith) }
 
 -- the half-face that comes next
 pub IsWalked-on : (facet_of : List ℕ) (c : ℕ) (marks : List Bool) (p : ℕ) → IsWalked facet_of c marks (Some p) → IsOn facet_of c (p / 4)
@@ -43,16 +40,3 @@ IsWalked-goes_on facet_of c marks new_marks p next w kept here is =
         | inr k ↦ kept (h / 4) (w.marked h k below_end on)
       ];
     }
-
-pub IsWalked-ends : (facet_of : List ℕ) (c : ℕ) (marks : List Bool) → IsWalked facet_of c marks None → IsFilled facet_of marks c
-IsWalked-ends facet_of c marks w i on =
-    subst (λ j. is_marked marks j ≡ true) on.tet_is
-    (elim (cases_lt on.half_face w.bound) [
-      | inl k ↦ absurd (w.next_is on.half_face k on.facet_is)
-      | inr k ↦ w.marked on.half_face k on.there on.facet_is
-    ])
-
--- a walk goes back
-pub rank-falls : (facet_of : List ℕ) (c p : ℕ) (next : Option ℕ) → IsLast facet_of c p next → rank next < rank (Some p)
-rank-falls facet_of c p None is = omega arith
-rank-falls facet_of c p (Some q) is = let below = is.below in omega arith

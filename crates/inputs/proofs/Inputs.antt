@@ -1,11 +1,11 @@
 -- The texts of inputs say one thing only.
 use Rattle.std.proofs.Common.{◌≡◌, ℕ, List, Option, Result, Ok, Err, sym, subst, ◌∙◌}
-use Rattle.lines.proofs.Laws.{text_once, text_or_bad}
+use Rattle.lines.proofs.ForCallers.{text_once, text_or_bad}
 use Rattle.soup.specs.declared.raw.Raw.{Raw}
 use Rattle.msh_text.specs.Answers as msh
-use Rattle.msh_text.proofs.OneReading.{one_text}
+use Rattle.msh_text.proofs.ForCallers.{one_text}
 use Rattle.report_text.specs.Rules.{report_rules}
-use Rattle.report_text.proofs.OneReading.{report_clear}
+use Rattle.report_text.proofs.ForCallers.{report_clear}
 use Rattle.lines.specs.Whole.{IsText}
 use Rattle.inputs.specs.Readings.{file}
 use Rattle.inputs.specs.Texts.{SaysSoup, SaysMesh, SaysReport, soup_in, placed_soup, soup_file}

@@ -1,5 +1,6 @@
-pub mod Chains
-pub mod Soups
-pub mod Ones
-pub mod Answering
-pub mod Inputs
+mod Chains
+mod Soups
+mod Ones
+mod Answering
+mod Inputs
+pub mod ForCallers

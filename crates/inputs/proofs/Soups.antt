@@ -1,17 +1,15 @@
 -- A soup in its box, by the room that it needs.
-use Rattle.std.proofs.Common.{◌≡◌, ℕ, ◌<◌, ◌≤◌, ◌^◌, pos, ℤ, length, get_or, All, Ok, Err, refl, sym, ap, ◌∙◌, subst, arith, lit≤}
+use Rattle.std.proofs.Common.{◌≡◌, ℕ, ◌<◌, ◌≤◌, ◌^◌, pos, length, get_or, All, Ok, Err, refl, sym, ap, ◌∙◌, subst, arith, lit≤}
 use Rattle.std.proofs.Math.Nat.{pow-le-pow_right}
 use Rattle.std.proofs.lemmas.List.{length-map}
 use Rattle.std.proofs.lemmas.Bool.{lt-ltb, le-ltb}
-use Rattle.int_algebra.proofs.Laws.{linear}
-use Rattle.grid.specs.declared.shapes.Point.{Point}
-use Rattle.grid.specs.declared.shapes.Tri.{Tri}
-use Rattle.grid.specs.Boxes.{corner_of, IsUpTo, IsInBox, IsTriInBox}
+use Rattle.grid.specs.Boxes.{IsTriInBox}
 use Rattle.grid.specs.Limits.{IsSide}
 use Rattle.soup.specs.declared.raw.Raw.{Raw}
 use Rattle.soup.specs.declared.raw.Soup.{Soup}
 use Rattle.soup.specs.Limits.{IsRaw}
 use Rattle.soup.specs.Placement.{extent, room, side, start, placed, placed_triangle, IsLeastSide, IsInItsBox}
+use Rattle.soup.proofs.ForCallers.{IsTriInBox-wider}
 use Rattle.inputs.specs.Placed.{IsBoxed, IsPlacedFor}
 use Rattle.inputs.specs.Texts.{longest_side, soup_in, too_wide_line}
 
@@ -34,25 +32,12 @@ side-is : (raw : Raw) (e cells : ℕ) → (placed raw e cells).side ≡ pos (sid
 unfolding placed
 side-is raw e cells = refl
 
--- a box of the grid lies in the grid
-most : (p : ℕ) → p ≤ 18 → 2 ^ p ≤ 262144
-most p h = pow-le-pow_right (lit≤ tt) h
-
-up_to : (l : ℕ) (z : ℤ) → l ≤ 262144 → IsUpTo l z → IsUpTo 262144 z
-up_to l z h u = record { low = u.low; high = omega (arith, linear, u.high, h) }
-
-wider : (l : ℕ) (p : Point) → l ≤ 262144 → IsInBox l p → IsInBox 262144 p
-wider l p h b = record { x_in = up_to l p.x h b.x_in; y_in = up_to l p.y h b.y_in; z_in = up_to l p.z h b.z_in }
-
-wider_triangle : (l : ℕ) (t : Tri) → l ≤ 262144 → IsTriInBox l t → IsTriInBox 262144 t
-wider_triangle l t h b = record { a_in = wider l (corner_of t 0) h b.a_in; b_in = wider l (corner_of t 1) h b.b_in; c_in = wider l (corner_of t 2) h b.c_in }
-
 placed-inside : (raw : Raw) (e cells : ℕ) (soup : Soup) → soup ≡ placed raw e cells → IsSide soup.side → All (IsTriInBox (side raw e cells)) soup.triangles → All (IsTriInBox 262144) soup.triangles
 placed-inside raw e cells soup is s all =
     let same : pos (side raw e cells) ≡ pos (2 ^ s.power) = sym (side-is raw e cells) ∙ (ap (λ (z : Soup). z.side) (sym is) ∙ s.is) in
     let number : side raw e cells ≡ 2 ^ s.power = cc in
-    let low : side raw e cells ≤ 262144 = subst (λ n. n ≤ 262144) (sym number) (most s.power s.power_most) in
-    λ k d lt. wider_triangle (side raw e cells) (get_or soup.triangles k d) low (all k d lt)
+    let low : side raw e cells ≤ 262144 = subst (λ n. n ≤ 262144) (sym number) (pow-le-pow_right (lit≤ tt) s.power_most) in
+    λ k d lt. IsTriInBox-wider (side raw e cells) 262144 (get_or soup.triangles k d) low (all k d lt)
 
 -- what the placement gives
 pub placed-for : (raw : Raw) (e cells : ℕ) (soup : Soup) → IsRaw raw → soup ≡ placed raw e cells → IsLeastSide raw e cells soup.side → IsInItsBox e (side raw e cells) soup → IsPlacedFor cells soup

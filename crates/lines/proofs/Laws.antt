@@ -95,11 +95,6 @@ module _ {X : Type 0} (form : Form X) (bytes : List ℕ) (step : X → Form X) (
       let none : n - i ≡ 0 = omega arith in
       ends (subst (λ m. Continues form bytes (repeat step m x) rest) none so_far)
 
--- ---- the two parts of a reading
-pub reads_parts : {X Y : Type 0} (first : Form X) (next : X → Form Y) (bytes : List ℕ) (y : Y) (rest : List ℕ) → Reads (first >>= next) bytes y rest → (x : X) × (after : List ℕ) × Reads first bytes x after × Reads (next x) after y rest
-unfolding Reads
-reads_parts first next bytes y rest h = h
-
 -- ---- one reading
 pub reads_once : {X : Type 0} (form : Form X) (bytes : List ℕ) (x y : X) (rest more : List ℕ) → IsClear form → Reads form bytes x rest → Reads form bytes y more → (x ≡ y) × (rest ≡ more)
 unfolding Reads IsClear

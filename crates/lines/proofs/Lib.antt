@@ -1,8 +1,9 @@
-pub mod Laws
-pub mod Numerals
-pub mod Units
-pub mod Clear
-pub mod Putting
-pub mod Going
-pub mod Chains
-pub mod CanSay
+mod Laws
+mod Numerals
+mod Units
+mod Clear
+mod Putting
+mod Going
+mod Chains
+mod CanSay
+pub mod ForCallers

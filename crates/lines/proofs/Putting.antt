@@ -1,6 +1,5 @@
 -- What is put at the end of a text, one behind the other.
-use Rattle.std.proofs.Common.{◌≡◌, List, [], ◌++◌, sym, ap, ◌∙◌, append_assoc, ℕ, Result, Ok, Err}
-use Rattle.std.specs.Prelude.{OnOk}
+use Rattle.std.proofs.Common.{◌≡◌, List, [], ◌++◌, sym, ap, ◌∙◌, append_assoc, ℕ}
 use Rattle.std.proofs.lemmas.List.{append-nil}
 
 -- one more in front, and the last one
@@ -9,7 +8,3 @@ put_more old after text {now} {new} e k = k ∙ ap (λ bs. bs ++ after) e ∙ ap
 
 pub put_last : (old text : List ℕ) {new : List ℕ} → new ≡ old ++ text → new ≡ old ++ (text ++ [])
 put_last old text {new} e = e ∙ ap (λ bs. old ++ bs) (sym (append-nil text))
-
-pub on_ok : {X E P Q : Type 0} (r : Result X E) → (P → Q) → OnOk r P → OnOk r Q
-on_ok (Ok x) f p = f p
-on_ok (Err e) f p = p

@@ -12,8 +12,7 @@ use Rattle.mesh_io.specs.Sink.{SinkState}
 use Rattle.printing.specs.Printed.{Says, memory_line}
 use Rattle.inputs.specs.Answers.{IsOutOfMemory}
 use Rattle.inputs.specs.declared.issue.InputIssue.TheVariants as issues
-use Rattle.inputs.proofs.Answering.{differ}
-use Rattle.inputs.proofs.Chains.{no_reads}
+use Rattle.inputs.proofs.ForCallers.{differ, no_reads}
 use Rattle.checking.specs.Cases.{check_inputs}
 use Rattle.checking.specs.Checks.{Checks}
 use Rattle.checking.proofs.Judging as judging

@@ -12,9 +12,7 @@ use Rattle.inputs.specs.Placed.{IsBoxed}
 use Rattle.inputs.specs.Readings.{Gives}
 use Rattle.inputs.specs.declared.issue.InputIssue.{InputIssue}
 use Rattle.inputs.specs.Answers.{Reads, NothingWritten, IsOutOfMemory, issue_line, issue_status}
-use Rattle.inputs.proofs.Ones.{IsOne}
-use Rattle.inputs.proofs.Inputs.{soup_file-IsOne}
-use Rattle.inputs.proofs.Answering.{differ, answers_issue, known_status, other_status, accepted_not}
+use Rattle.inputs.proofs.ForCallers.{IsOne, soup_file-IsOne, differ, answers_issue, known_status, other_status, accepted_not}
 use Rattle.outputs.specs.declared.asked.Asked.{Asked}
 use Rattle.outputs.specs.declared.asked.Names.{Names}
 use Rattle.outputs.specs.declared.written.OutFile.{OutFile}
@@ -22,8 +20,7 @@ use Rattle.outputs.specs.declared.written.Texts.{Texts}
 use Rattle.outputs.specs.Made.{IsAsked, IsMade}
 use Rattle.outputs.specs.Written.{Writes}
 use Rattle.acceptance.specs.InFolder.{IsShort, AreShort, IsFoundGood}
-use Rattle.acceptance.proofs.Acceptable.{accepted}
-use Rattle.acceptance.proofs.InFolder.{found_good, found_good_beside, field_gives, first_there}
+use Rattle.acceptance.proofs.ForCallers.{accepted, found_good, found_good_beside, field_gives, first_there}
 use Rattle.mesh_run.specs.Meshing.{IsOut, IsCutOut, Finishes, asked_of, names_of, mesh_inputs, IsDone, Meshes, demo_asked, demo_names, demo_files, demo_soup, demo_check, Demos}
 use Rattle.mesh_run.proofs.Behind.{write_rose_of, whole_of, cut_off_of, cause_of}
 

@@ -17,7 +17,7 @@ use Rattle.outputs.specs.declared.asked.Names.{Names}
 use Rattle.outputs.specs.declared.written.OutFile.{OutFile}
 use Rattle.outputs.specs.declared.written.Texts.{Texts}
 use Rattle.outputs.specs.Made.{IsMade}
-use Rattle.outputs.specs.Written.{IsWritten, IsCutOff}
+use Rattle.outputs.specs.Written.{AreWritten, IsCutOff}
 use Rattle.acceptance.specs.InFolder.{check_of, AreShort, IsFoundGood, AreAccepted}
 
 -- ---- the writes
@@ -26,7 +26,7 @@ pub record IsOut (asked : Asked) (names : Names) (first : List OutFile) (soup : 
   pub texts : Texts
   pub made : IsMade asked names first soup texts
   pub accepted : AreAccepted asked names first soup texts made
-  pub written : IsWritten texts old new before after
+  pub written : AreWritten texts old new before after
 
 -- they were made, and a write failed
 pub record IsCutOut (asked : Asked) (names : Names) (first : List OutFile) (soup : Soup) (old new : FolderState) (before after : SinkState) : Type 0 where

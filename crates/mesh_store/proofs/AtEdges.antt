@@ -3,6 +3,7 @@ use Rattle.std.proofs.Common.{◌≡◌, ℕ, ◌+◌, ◌<◌, ◌≤◌, Bool,
 use Rattle.std.specs.List.{list_any}
 use Rattle.std.specs.List.Sorted.{IsStrictlyIncreasing}
 use Rattle.std.proofs.lemmas.List.{at_drop_more, at_drop_all}
+use mathlib.Core.Bool.{or_assoc, or-false}
 use Rattle.grid.specs.Simplices.{has}
 use Rattle.mesh_types.specs.declared.cut.Cut.{Cut}
 use Rattle.mesh_types.specs.Refines.{is_touched}
@@ -20,14 +21,6 @@ is_at_edges cuts s = list_any (λ e. has_edge e.u e.v s) cuts
 -- the numbers so far, and those at the edges that are left, are those at all edges
 abbrev pub FoundTo : List Cut → List Slot → ℕ → List ℕ → Type 0
 FoundTo cuts slots n numbers = (i : ℕ) → (has numbers i || is_at_edges (drop n cuts) (slot_at slots i)) ≡ is_at_edges cuts (slot_at slots i)
-
-or_assoc : (a b c : Bool) → ((a || b) || c) ≡ (a || (b || c))
-or_assoc true b c = refl
-or_assoc false b c = refl
-
-or_false : (a : Bool) → (a || false) ≡ a
-or_false true = refl
-or_false false = refl
 
 module _ (cuts : List Cut) (slots : List Slot) where
   pub goes_on : (n : ℕ) (d : Cut) (numbers at new : List ℕ) → n < length cuts → at ≡ numbers_of (has_edge (get_or cuts n d).u (get_or cuts n d).v) 0 slots → new ≡ numbers ++ at → FoundTo cuts slots n numbers → FoundTo cuts slots (n + 1) new
@@ -54,5 +47,5 @@ module _ (cuts : List Cut) (slots : List Slot) where
   found-all n numbers risen l h rising same =
       numbers-found (is_split cuts) refl slots risen rising
       (λ i. same i
-      ∙ (sym (or_false (has numbers i))
+      ∙ (sym (or-false (has numbers i))
       ∙ (sym (at_drop_all (λ (es : List Cut). has numbers i || is_at_edges es (slot_at slots i)) cuts n l) ∙ (h i ∙ at-edges cuts (slot_at slots i)))))

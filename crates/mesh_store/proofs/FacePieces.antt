@@ -1,8 +1,9 @@
 -- The pieces of tracked triples.
-use Rattle.std.proofs.Common.{arith, ◌≡◌, ℕ, ◌<◌, Bool, true, false, List, [], ◌∷◌, ◌++◌, map, refl, ◌∙◌, ap, inl, inr, ltb}
+use Rattle.std.proofs.Common.{arith, ◌≡◌, ℕ, ◌<◌, false, List, [], ◌∷◌, ◌++◌, map, refl, ◌∙◌, ap, inl, inr, ltb}
 use Rattle.std.specs.List.{flat_map, AllByRecursion as Each}
 use Rattle.std.proofs.lemmas.Bool.{cases_Bool, ltb-true}
 use Rattle.std.proofs.lemmas.List.Concat.{flat_map-append}
+use Rattle.std.proofs.lemmas.List.{map-append}
 use Rattle.grid.specs.Meshes.{IsTriple}
 use Rattle.grid.specs.Simplices.{rising, insert_number, Rises}
 use Rattle.mesh_types.specs.declared.cut.Cut.{Cut}
@@ -25,13 +26,9 @@ pub rising-risen : (x : List ℕ) → Rises x → rising x ≡ x
 rising-risen [] r = refl
 rising-risen (a ∷ x) r = ap (insert_number a) (rising-risen x r.1) ∙ insert-least a x r.0
 
-map-append : (xs ys : List (List ℕ)) → map rising (xs ++ ys) ≡ map rising xs ++ map rising ys
-map-append [] ys = refl
-map-append (x ∷ xs) ys = ap (λ (zs : List (List ℕ)). rising x ∷ zs) (map-append xs ys)
-
 module _ (cuts : List Cut) (k : ℕ) where
   pub pieces-append : (xs ys : List (List ℕ)) → triple_pieces cuts k (xs ++ ys) ≡ triple_pieces cuts k xs ++ triple_pieces cuts k ys
-  pieces-append xs ys = ap (map rising) (flat_map-append (sub_all k cuts) xs ys) ∙ map-append (flat_map (sub_all k cuts) xs) (flat_map (sub_all k cuts) ys)
+  pieces-append xs ys = ap (map rising) (flat_map-append (sub_all k cuts) xs ys) ∙ map-append rising (flat_map (sub_all k cuts) xs) (flat_map (sub_all k cuts) ys)
 
   -- a triple that no cut touches is its own one piece
   pub whole : (t : List ℕ) → IsTriple k t → is_touched cuts t ≡ false → triple_pieces cuts k (t ∷ []) ≡ t ∷ []

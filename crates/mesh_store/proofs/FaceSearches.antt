@@ -1,10 +1,11 @@
 -- The tracked faces at points, sorted and each once, as parts of the list of tracked faces.
-use Rattle.std.proofs.Common.{arith, ◌≡◌, ℕ, zero, suc, ◌+◌, ◌<◌, ◌≤◌, Bool, true, false, ◌&&◌, ◌||◌, cond, List, [], ◌∷◌, ◌++◌, length, get_or, drop, filter, refl, sym, ◌∙◌, ap, inl, inr}
-use Rattle.std.specs.List.{list_any, Contains, AllByRecursion as Each}
+use Rattle.std.proofs.Common.{arith, ◌≡◌, ℕ, zero, suc, ◌+◌, ◌<◌, ◌≤◌, Bool, true, false, ◌&&◌, ◌||◌, List, [], ◌∷◌, ◌++◌, length, get_or, drop, filter, refl, sym, ◌∙◌, ap, inl, inr}
+use Rattle.std.specs.List.{list_any, Contains}
 use Rattle.std.specs.Str.{bytes_eq}
 use Rattle.std.proofs.lemmas.Bool.{cases_Bool, or_cases, or_left, or_right, true≢false}
-use Rattle.std.proofs.lemmas.List.{at_drop_more, at_drop_all}
+use Rattle.std.proofs.lemmas.List.{at_drop_more, at_drop_all, map-append}
 use Rattle.std.proofs.lemmas.List.Folds.{list_any-append}
+use mathlib.Core.Bool.{or_assoc, or-false}
 use Rattle.grid.specs.declared.shapes.Face.{Face}
 use Rattle.grid.specs.Meshes.{Ordered, is_below}
 use Rattle.grid.specs.Simplices.{has}
@@ -80,24 +81,12 @@ is_at_edges keys cuts x = list_any (λ e. is_among x (triples_of (faces_at_edge 
 abbrev pub FoundTo : Keys → List Cut → ℕ → List Face → Type 0
 FoundTo keys cuts n fs = (x : List ℕ) → (is_among x (triples_of fs) || is_at_edges keys (drop n cuts) x) ≡ is_at_edges keys cuts x
 
-or_assoc : (a b c : Bool) → ((a || b) || c) ≡ (a || (b || c))
-or_assoc true b c = refl
-or_assoc false b c = refl
-
-or_false : (a : Bool) → (a || false) ≡ a
-or_false true = refl
-or_false false = refl
-
-triples-append : (fs gs : List Face) → triples_of (fs ++ gs) ≡ triples_of fs ++ triples_of gs
-triples-append [] gs = refl
-triples-append (f ∷ fs) gs = ap (λ (ts : List (List ℕ)). f.0 ∷ ts) (triples-append fs gs)
-
 module _ (keys : Keys) (cuts : List Cut) where
   pub goes_on : (n : ℕ) (d : Cut) (fs at more new : List Face) → n < length cuts → at ≡ faces_at keys (get_or cuts n d).u → more ≡ at → new ≡ fs ++ filter (λ f. has f.0 (get_or cuts n d).v) more → FoundTo keys cuts n fs → FoundTo keys cuts (n + 1) new
   goes_on n d fs at more new l e same f h x =
       let cut : Cut = get_or cuts n d in
       ap (λ (gs : List Face). is_among x (triples_of gs) || is_at_edges keys (drop (n + 1) cuts) x) (f ∙ ap (λ (gs : List Face). fs ++ filter (λ g. has g.0 cut.v) gs) (same ∙ e))
-      ∙ (ap (λ (b : Bool). b || is_at_edges keys (drop (n + 1) cuts) x) (ap (is_among x) (triples-append fs (faces_at_edge keys cut)) ∙ list_any-append (bytes_eq x) (triples_of fs) (triples_of (faces_at_edge keys cut)))
+      ∙ (ap (λ (b : Bool). b || is_at_edges keys (drop (n + 1) cuts) x) (ap (is_among x) (map-append (λ g. g.0) fs (faces_at_edge keys cut)) ∙ list_any-append (bytes_eq x) (triples_of fs) (triples_of (faces_at_edge keys cut)))
       ∙ (or_assoc (is_among x (triples_of fs)) (is_among x (triples_of (faces_at_edge keys cut))) (is_at_edges keys (drop (n + 1) cuts) x)
       ∙ (sym (at_drop_more (λ (es : List Cut). is_among x (triples_of fs) || is_at_edges keys es x) cuts n d l) ∙ h x)))
 
@@ -119,5 +108,5 @@ module _ (keys : Keys) (cuts : List Cut) where
   pub found-all : (n : ℕ) (fs risen : List Face) → length cuts ≤ n → FoundTo keys cuts n fs → Ordered (triples_of risen) → ((x : List ℕ) → is_among x (triples_of risen) ≡ is_among x (triples_of fs)) → triples_of risen ≡ filter (is_touched cuts) (tracked_in keys)
   found-all n fs risen l h ordered same =
       chosen-is (is_touched cuts) keys risen ordered (λ x. same x
-      ∙ (sym (or_false (is_among x (triples_of fs)))
+      ∙ (sym (or-false (is_among x (triples_of fs)))
       ∙ (sym (at_drop_all (λ (es : List Cut). is_among x (triples_of fs) || is_at_edges keys es x) cuts n l) ∙ (h x ∙ at-edges cuts x))))

@@ -28,7 +28,7 @@ abbrev all_in : List Face → Keys
 all_in faces = map (λ f. (f, true)) faces
 
 -- ---- faces in strictly rising order differ
-differ : (x y : List ℕ) → is_below x y ≡ true → bytes_eq y x ≡ false
+pub differ : (x y : List ℕ) → is_below x y ≡ true → bytes_eq y x ≡ false
 differ x y h = false_from_ne_true (bytes_eq y x) (λ e. true≢false (sym h ∙ (ap (is_below x) ((bytes_eq-Decides y x).0 e) ∙ below_not x)))
 
 differ-after : (x y : List ℕ) → is_below x y ≡ true → bytes_eq x y ≡ false

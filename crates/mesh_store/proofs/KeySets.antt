@@ -5,17 +5,14 @@ use Rattle.std.specs.List.Sorted.{IsPermutation}
 use Rattle.std.specs.Str.{bytes_eq}
 use Rattle.std.proofs.lemmas.List.Elements.{recursion_from_All}
 use Rattle.std.proofs.lemmas.List.Sorted.{list_any-IsPermutation}
-use Rattle.std.proofs.lemmas.Slice.Eq.{bytes_eq-Decides}
 use Rattle.grid.specs.declared.shapes.Face.{Face}
 use Rattle.grid.specs.Meshes.{IsTriple, Ordered}
 use Rattle.grid.specs.Views.{triples_of}
+use Rattle.tracked.proofs.KeyFacts.{same-equal}
 use Rattle.mesh_types.proofs.TripleSets.{is_among, ordered_same, in_order_once-Ordered, is_among-in_order_once, Each-in_order_once}
 use Rattle.tracked.specs.Keys.{Keys, same_face, state_of, is_in, put, faces_in}
 use Rattle.mesh_store.specs.Parts.{Parts, tracked_in}
 use Rattle.mesh_store.specs.Changes.{face_of, face_put, all_put}
-
-same-equal : (f g : Face) → same_face f g ≡ true → f ≡ g
-same-equal f g e = ap (λ (x : List ℕ). record { 0 = x }) ((bytes_eq-Decides f.0 g.0).0 e)
 
 first-put : (here b : Bool) → unwrap_or (cond here (Some b) None) false ≡ cond here b false
 first-put true b = refl

@@ -1,7 +1,7 @@
 -- Slots that are killed by their numbers.
-use Rattle.std.proofs.Common.{◌≡◌, ℕ, suc, ◌+◌, ◌<◌, Bool, true, false, ◌&&◌, not, cond, List, [], ◌∷◌, ◌++◌, map, filter, length, set, take, refl, sym, ◌∙◌, ap, subst, inl, inr, arith, append_assoc, length-append}
+use Rattle.std.proofs.Common.{◌≡◌, ℕ, suc, ◌<◌, Bool, true, false, ◌&&◌, not, cond, List, [], ◌∷◌, ◌++◌, map, filter, length, set, take, refl, sym, ◌∙◌, ap, subst, inl, inr, arith, append_assoc, length-append}
 use Rattle.std.proofs.lemmas.Bool.{cases_Bool, and_parts, cases_eq}
-use Rattle.std.proofs.lemmas.List.{get_or_at, set_at, get_or-set_same, get_or-set_other, length-map, length_push, get_or_append_left, take_all}
+use Rattle.std.proofs.lemmas.List.{get_or_at, set_at, get_or-set_same, get_or-set_other, length_push, get_or_append_left, take_all}
 use Rattle.tet_slots.specs.declared.slot.Slot.{Slot}
 use Rattle.tet_slots.specs.Slots.{slot_at, with_live, no_slot}
 use Rattle.tet_slots.specs.Searches.{numbers_of}
@@ -63,10 +63,6 @@ grown-exchanged gone fresh out into m =
       tets = λ i l. ap (λ (s : Slot). s.tet) (at i l) ∙ tets-stay gone m.slots i l;
       killed = λ i l d. ap (λ (s : Slot). s.live) (at i l) ∙ dead-stay gone m.slots i l d;
     }
-
-pub exchanged-length : (gone : List ℕ) (fresh out into : List (List ℕ)) (m : Parts) → length (exchanged gone fresh out into m).slots ≡ length m.slots + length fresh
-exchanged-length gone fresh out into m =
-    omega (arith, ap length (exchanged-slots gone fresh out into m), length-append (all_killed gone m.slots) (map live_slot fresh), all_killed-length gone m.slots, length-map fresh live_slot)
 
 -- ---- the live slots whose tetrahedra pass a test
 regroup : (a b : List Slot) (s : Slot) → (a ++ s ∷ []) ++ b ≡ a ++ s ∷ b

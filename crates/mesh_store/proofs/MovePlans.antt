@@ -1,23 +1,19 @@
 -- The change of a point for another, as a step: what the step wants, and what it makes.
-use Rattle.std.proofs.Common.{◌≡◌, ℕ, ℤ, ◌<◌, Bool, true, false, ◌&&◌, ◌||◌, not, List, [], ◌∷◌, ◌++◌, map, length, refl, sym, ◌∙◌, ap, subst, All}
+use Rattle.std.proofs.Common.{◌≡◌, ℕ, ℤ, ◌<◌, ◌&&◌, ◌||◌, not, List, [], ◌++◌, map, length, refl, sym, ◌∙◌, ap, subst, All}
 use Rattle.std.specs.List.{AllByRecursion as Each}
-use Rattle.std.specs.Str.{bytes_eq}
 use Rattle.std.proofs.lemmas.List.Elements.{All-from_recursion, recursion_from_All}
 use Rattle.grid.specs.Meshes.{IsTriple}
 use Rattle.grid.specs.Simplices.{IsTet, has, rising}
 use Rattle.grid.specs.Views.{triples_of}
 use Rattle.mesh_types.proofs.Chosen.{Each-filter}
-use Rattle.mesh_types.proofs.TripleSets.{is_among, equal_to, in_order_once-Ordered, is_among-in_order_once}
+use Rattle.mesh_types.proofs.TripleSets.{is_among, in_order_once-Ordered}
 use Rattle.tet_slots.specs.declared.slot.Slot.{Slot}
-use Rattle.tet_slots.specs.Slots.{with_live}
 use Rattle.tet_slots.specs.Searches.{numbers_of, has_corner}
-use Rattle.tet_slots.proofs.SlotLemmas.{killed-length}
-use Rattle.tracked.specs.Keys.{Keys, is_in, faces_in}
-use Rattle.tracked.proofs.KeyFacts.{is_in-among}
+use Rattle.tracked.specs.Keys.{faces_in}
 use Rattle.mesh_store.specs.Parts.{Parts, live_slot, live_tets, tracked_in}
 use Rattle.mesh_store.specs.Sound.{IsSound}
-use Rattle.mesh_store.specs.Changes.{face_of, tets_made, killed_if}
-use Rattle.mesh_store.specs.Exchanges.{all_killed, CanKill, CanTake, all_taken, slots_killed, exchanged, at_corner, put_in, moved_tets, tet_in, IsMoved}
+use Rattle.mesh_store.specs.Changes.{killed_if}
+use Rattle.mesh_store.specs.Exchanges.{all_killed, CanKill, CanTake, exchanged, at_corner, put_in, moved_tets, tet_in, IsMoved}
 use Rattle.mesh_store.proofs.Exchanged.{exchanged-in, tracked-in}
 use Rattle.mesh_store.proofs.Killing.{CanKill-numbers, all_killed-numbers, tets-numbers, exchanged-points, exchanged-slots}
 use Rattle.mesh_store.proofs.KeySets.{tracked-triples}

@@ -2,15 +2,15 @@
 use Rattle.std.proofs.Common.{◌≡◌, ℕ, ◌<◌, Bool, true, false, ◌&&◌, ◌||◌, not, cond, List, [], ◌∷◌, map, filter, refl, sym, ◌∙◌, ap, inl, inr}
 use Rattle.std.specs.List.{AllByRecursion as Each}
 use Rattle.std.specs.Str.{bytes_eq}
-use Rattle.std.proofs.lemmas.Bool.{cases_Bool, and_parts, true≢false}
+use Rattle.std.proofs.lemmas.Bool.{cases_Bool, and_parts, not-true}
+use mathlib.Core.Bool.{or_assoc}
 use Rattle.grid.specs.Meshes.{IsTriple, Ordered, is_below}
 use Rattle.grid.specs.Simplices.{IsTet, has, replaced, rising}
 use Rattle.mesh_types.proofs.Kept.{IsTet-from}
 use Rattle.mesh_types.proofs.Mapped.{replaced_none}
-use Rattle.mesh_types.proofs.Order.{below_not}
 use Rattle.mesh_types.proofs.Puts.{cornered-put, triple-put}
 use Rattle.mesh_types.proofs.Refinement.{cornered_of}
-use Rattle.mesh_types.proofs.TripleSets.{is_among, equal_from, differ_to}
+use Rattle.mesh_types.proofs.TripleSets.{is_among, equal_from}
 use Rattle.mesh_types.proofs.WellFormed.{triple_of, rising-IsTriple}
 use Rattle.tracked.specs.Keys.{Keys, is_in, put}
 use Rattle.mesh_store.specs.Parts.{Parts}
@@ -18,6 +18,7 @@ use Rattle.mesh_store.specs.Changes.{face_of, face_put}
 use Rattle.mesh_store.specs.Exchanges.{CanTake, all_taken, at_corner, put_in, moved_tets, moved_triples}
 use Rattle.mesh_store.proofs.FacePieces.{rising-risen}
 use Rattle.mesh_store.proofs.KeySets.{is_in-put, state-in}
+use Rattle.mesh_store.proofs.FirstMesh.{differ}
 
 -- ---- tests in turn
 filter-at : (p q : List ℕ → Bool) (x : List ℕ) (xs : List (List ℕ)) (a b : Bool) → p x ≡ a → q x ≡ b → filter q (filter p xs) ≡ filter (λ y. p y && q y) xs → filter q (filter p (x ∷ xs)) ≡ filter (λ y. p y && q y) (x ∷ xs)
@@ -33,14 +34,10 @@ pub put_in-at : (u v : ℕ) (xs : List (List ℕ)) → put_in u v (at_corner u x
 put_in-at u v xs = ap (map (replaced u v)) (filter-filter (λ x. has x u) (λ x. not (has x v)) xs)
 
 -- ---- the new tetrahedra
-not_true : (b : Bool) → not b ≡ true → b ≡ false
-not_true true e = absurd (true≢false (sym e))
-not_true false e = refl
-
 pub tets-moved : (n u v : ℕ) (xs : List (List ℕ)) → v < n → Each (IsTet n) xs → Each (IsTet n) (moved_tets u v xs)
 tets-moved n u v [] l h = tt
 tets-moved n u v (x ∷ xs) l h = elim (cases_Bool (has x u && not (has x v))) [
-  | inl e ↦ rw e (IsTet-from n (replaced u v x) (cornered-put u v n x (cornered_of n x h.0) (not_true (has x v) (and_parts (has x u) (not (has x v)) e).1) l), tets-moved n u v xs l h.1)
+  | inl e ↦ rw e (IsTet-from n (replaced u v x) (cornered-put u v n x (cornered_of n x h.0) (not-true (has x v) (and_parts (has x u) (not (has x v)) e).1) l), tets-moved n u v xs l h.1)
   | inr e ↦ rw e (tets-moved n u v xs l h.1)
 ]
 
@@ -60,12 +57,9 @@ is_in-all_taken x (t ∷ ts) m =
     is_in-all_taken x ts (face_put (face_of t) false m)
     ∙ (ap (λ (b : Bool). b && not (is_among x ts)) (is_in-put (face_of t) (face_of x) false m.keys) ∙ is_taken (bytes_eq x t) (is_in (face_of x) m.keys) (is_among x ts))
 
-differ-later : (t y : List ℕ) → is_below t y ≡ true → bytes_eq y t ≡ false
-differ-later t y h = differ_to y t (λ e. true≢false (sym h ∙ (ap (is_below t) e ∙ below_not t)))
-
 stay-in : (t : List ℕ) (ts : List (List ℕ)) (keys : Keys) → Each (λ y. is_below t y ≡ true) ts → Each (λ y. is_in (face_of y) keys ≡ true) ts → Each (λ y. is_in (face_of y) (put (face_of t) false keys) ≡ true) ts
 stay-in t [] keys o h = tt
-stay-in t (y ∷ ts) keys o h = (is_in-put (face_of t) (face_of y) false keys ∙ (ap (λ (b : Bool). cond b false (is_in (face_of y) keys)) (differ-later t y o.0) ∙ h.0), stay-in t ts keys o.1 h.1)
+stay-in t (y ∷ ts) keys o h = (is_in-put (face_of t) (face_of y) false keys ∙ (ap (λ (b : Bool). cond b false (is_in (face_of y) keys)) (differ t y o.0) ∙ h.0), stay-in t ts keys o.1 h.1)
 
 pub CanTake-filter : (p : List ℕ → Bool) (ts : List (List ℕ)) (keys : Keys) → Ordered ts → Each (λ t. is_in (face_of t) keys ≡ true) ts → CanTake (filter p ts) keys
 CanTake-filter p [] keys o h = tt
@@ -107,10 +101,6 @@ pub left-over : (a p : Bool) → (a && not (a && p)) ≡ (a && not p)
 left-over true p = refl
 left-over false p = refl
 
-pub or_assoc : (a b c : Bool) → (a || (b || c)) ≡ ((a || b) || c)
-or_assoc true b c = refl
-or_assoc false b c = refl
-
 or_turn : (e a b : Bool) → (e || (a || b)) ≡ (a || (e || b))
 or_turn true true b = refl
 or_turn true false b = refl
@@ -125,7 +115,7 @@ module _ (n u v : ℕ) (x : List ℕ) where
 
   moved-at : (t : List ℕ) (ts : List (List ℕ)) (a b : Bool) → has t u ≡ a → has t v ≡ b → IsTriple n t → is_among x (moved_triples u v ts) ≡ (changed ts || others ts) → is_among x (moved_triples u v (t ∷ ts)) ≡ (changed (t ∷ ts) || others (t ∷ ts))
   moved-at t ts true true e f r h = rw (e, f) h
-  moved-at t ts true false e f r h = rw (e, f) (ap (λ (b : Bool). bytes_eq x (rising (replaced u v t)) || b) h ∙ or_assoc (bytes_eq x (rising (replaced u v t))) (changed ts) (others ts))
+  moved-at t ts true false e f r h = rw (e, f) (ap (λ (b : Bool). bytes_eq x (rising (replaced u v t)) || b) h ∙ sym (or_assoc (bytes_eq x (rising (replaced u v t))) (changed ts) (others ts)))
   moved-at t ts false b e f r h =
       let is : rising (replaced u v t) ≡ t = ap rising (replaced_none u v t e) ∙ rising-risen t r.rises in
       rw e (ap (λ (y : List ℕ). bytes_eq x y || is_among x (moved_triples u v ts)) is ∙ (ap (λ (b : Bool). bytes_eq x t || b) h ∙ or_turn (bytes_eq x t) (changed ts) (others ts)))

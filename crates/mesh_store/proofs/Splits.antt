@@ -4,6 +4,7 @@ use Rattle.std.specs.List.{flat_map, AllByRecursion as Each}
 use Rattle.std.specs.Str.{bytes_eq}
 use Rattle.std.proofs.lemmas.List.Elements.{All-from_recursion, recursion_from_All}
 use Rattle.std.proofs.lemmas.List.Folds.{list_any-append}
+use mathlib.Core.Bool.{or_assoc}
 use Rattle.grid.specs.declared.shapes.Face.{Face}
 use Rattle.grid.specs.Meshes.{IsTriple}
 use Rattle.grid.specs.Simplices.{IsTet, rising}
@@ -16,17 +17,17 @@ use Rattle.mesh_types.proofs.Each.{Each-both, Each-of_flat_map}
 use Rattle.mesh_types.proofs.TripleSets.{is_among, in_order_once-Ordered}
 use Rattle.tet_slots.specs.declared.slot.Slot.{Slot}
 use Rattle.tet_slots.specs.Searches.{numbers_of}
-use Rattle.tracked.specs.Keys.{Keys, faces_in}
+use Rattle.tracked.specs.Keys.{faces_in}
 use Rattle.mesh_store.specs.Parts.{Parts, live_slot, live_tets, tracked_in}
 use Rattle.mesh_store.specs.Sound.{IsSound}
-use Rattle.mesh_store.specs.Changes.{face_of, is_split, IsSplit, slot_pieces, triple_pieces, killed_if}
+use Rattle.mesh_store.specs.Changes.{is_split, IsSplit, slot_pieces, triple_pieces, killed_if}
 use Rattle.mesh_store.specs.Exchanges.{all_killed, CanKill, CanTake, exchanged, tet_in}
 use Rattle.mesh_store.proofs.Exchanged.{exchanged-in, tracked-in}
 use Rattle.mesh_store.proofs.FacePieces.{pieces-append, whole}
 use Rattle.mesh_store.proofs.KeySets.{tracked-triples}
 use Rattle.mesh_store.proofs.Killing.{CanKill-numbers, all_killed-numbers, tets-numbers, exchanged-points, exchanged-slots}
 use Rattle.mesh_store.proofs.MeshLemmas.{live-tets}
-use Rattle.mesh_store.proofs.Moves.{CanTake-filter, among-filter, left-over, or_assoc}
+use Rattle.mesh_store.proofs.Moves.{CanTake-filter, among-filter, left-over}
 use Rattle.mesh_store.proofs.PieceLemmas.{numbered-IsTet, numbered-IsTriple, All-unmap}
 
 -- ---- the triples after it
@@ -44,7 +45,7 @@ module _ (cuts : List Cut) (k : ℕ) (x : List ℕ) where
   pieces-at t ts true e r h =
       among-first t ts
       ∙ (ap (λ (b : Bool). is_among x (triple_pieces cuts k (t ∷ [])) || b) h
-      ∙ (or_assoc (is_among x (triple_pieces cuts k (t ∷ []))) (split ts) (others ts)
+      ∙ (sym (or_assoc (is_among x (triple_pieces cuts k (t ∷ []))) (split ts) (others ts))
       ∙ (ap (λ (b : Bool). b || others ts) (sym (among-first t (filter (is_touched cuts) ts))) ∙ rw e refl)))
   pieces-at t ts false e r h =
       among-first t ts

@@ -10,7 +10,7 @@ use Rattle.tet_slots.specs.declared.slot.Slot.{Slot}
 use Rattle.tet_slots.specs.Slots.{slot_at, IsUnused}
 use Rattle.tet_slots.proofs.SlotLemmas.{revived, killed-dead, killed-length}
 use Rattle.tracked.specs.Keys.{Keys, state_of, added_for}
-use Rattle.tracked.specs.declared.table.Added.TheVariants.{Already, Restored, New}
+use Rattle.tracked.specs.declared.table.Added.TheVariants.{Restored, New}
 use Rattle.tracked.proofs.KeyLemmas.{put-same, put-back, state-put, put-new}
 use Rattle.mesh_store.specs.Parts.{Parts, live_slot}
 use Rattle.mesh_store.specs.Sound.{IsSound}
@@ -58,11 +58,6 @@ can-new : (f : Face) (m : Parts) → state_of f m.keys ≡ None → CanUndo Face
 can-new f m is = omega (arith, ap length (put-new f true m.keys is), length_push m.keys (f, true))
 
 -- ---- what `add` found
-pub is-Already : (o : Option Bool) → Already ≡ added_for o → o ≡ Some true
-is-Already None e = cc
-is-Already (Some true) e = refl
-is-Already (Some false) e = cc
-
 pub is-Restored : (o : Option Bool) → Restored ≡ added_for o → o ≡ Some false
 is-Restored None e = cc
 is-Restored (Some true) e = cc

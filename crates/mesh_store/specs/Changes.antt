@@ -1,5 +1,5 @@
 -- What the changes of a store keep and make.
-use Rattle.std.specs.Prelude.{◌≡◌, ℕ, ◌<◌, ◌≤◌, Bool, true, false, not, ◌&&◌, cond, List, [], ◌∷◌, ◌++◌, length, map, take}
+use Rattle.std.specs.Prelude.{◌≡◌, ℕ, ◌<◌, ◌≤◌, Bool, true, false, not, ◌&&◌, List, [], ◌∷◌, ◌++◌, length, map, take}
 use Rattle.std.specs.List.{flat_map, filter, list_any}
 use Rattle.std.specs.Str.{bytes_eq}
 use Rattle.grid.specs.declared.shapes.Face.{Face}

@@ -1,9 +1,10 @@
 -- Refinement keeps the tetrahedra well formed.
-use Rattle.std.proofs.Common.{◌≡◌, ◌≢◌, ℕ, suc, eqb, ◌+◌, ◌<◌, List, [], ◌∷◌, ◌++◌, map, length, Bool, true, false, not, ap, refl, sym, subst, ◌∙◌, arith, inl, inr}
+use Rattle.std.proofs.Common.{◌≡◌, ℕ, suc, eqb, ◌+◌, ◌<◌, List, [], ◌∷◌, ◌++◌, map, length, Bool, true, false, not, ap, refl, sym, subst, ◌∙◌, arith, inl, inr}
 use Rattle.std.specs.List.{flat_map, filter, All, AllByRecursion as Each}
 use Rattle.std.proofs.lemmas.Bool.{cases_Bool, or_right}
 use Rattle.std.proofs.lemmas.List.{length-append, length-map}
 use Rattle.std.proofs.lemmas.List.Elements.{All-from_recursion, recursion_from_All}
+use mathlib.Core.Logic.{Ne-symm}
 use Rattle.grid.specs.Meshes.{Mesh}
 use Rattle.grid.specs.Simplices.{has, sub, AreDifferent, IsTet}
 use Rattle.mesh_types.specs.declared.cut.Cut.{Cut}
@@ -52,18 +53,15 @@ pub IsTet-from : (n : ℕ) (x : List ℕ) → Cornered n x → IsTet n x
 IsTet-from n x t = record {
   four = ap length t.is;
   different = subst AreDifferent (sym t.is) (
-    has_none_from t.b (t.c ∷ t.d ∷ []) t.a (turn t.different.ab) (has_none_from t.c (t.d ∷ []) t.a (turn t.different.ac) (has_none_from t.d [] t.a (turn t.different.ad) refl)),
+    has_none_from t.b (t.c ∷ t.d ∷ []) t.a (Ne-symm t.different.ab) (has_none_from t.c (t.d ∷ []) t.a (Ne-symm t.different.ac) (has_none_from t.d [] t.a (Ne-symm t.different.ad) refl)),
     (
-      has_none_from t.c (t.d ∷ []) t.b (turn t.different.bc) (has_none_from t.d [] t.b (turn t.different.bd) refl),
-      (has_none_from t.d [] t.c (turn t.different.cd) refl, (refl, tt)),
+      has_none_from t.c (t.d ∷ []) t.b (Ne-symm t.different.bc) (has_none_from t.d [] t.b (Ne-symm t.different.bd) refl),
+      (has_none_from t.d [] t.c (Ne-symm t.different.cd) refl, (refl, tt)),
     ),
   );
   in_range = All-from_recursion (λ c. c < n) x (below x t.below);
 }
   where
-    turn : {a b : ℕ} → a ≢ b → b ≢ a
-    turn h e = h (sym e)
-
     below : (x : List ℕ) → ((o : ℕ) → has x o ≡ true → o < n) → Each (λ c. c < n) x
     below [] h = tt
     below (a ∷ x) h = (h a (has_first a x), below x (λ o g. h o (more a x o g)))

@@ -57,6 +57,7 @@ pub mod TriesLaw
 pub mod OneVerdict
 pub mod Covered
 pub mod Inside
+pub mod SumsInTurn
 pub mod Exchanged
 pub mod Gone
 pub mod StaysSound

@@ -1,5 +1,5 @@
 -- An insertion has one outcome, and leaves one mesh.
-use Rattle.std.proofs.Common.{◌≡◌, ◌⊎◌, ℕ, ◌+◌, ◌<◌, List, [], ◌∷◌, ◌++◌, length, All, refl, sym, ap, ◌∙◌, subst, inl, inr, arith}
+use Rattle.std.proofs.Common.{◌≡◌, ℕ, suc, ◌<◌, List, [], ◌∷◌, ◌++◌, length, refl, sym, ap, ◌∙◌, subst, arith}
 use Rattle.std.specs.List.{AllByRecursion as Each}
 use Rattle.std.proofs.lemmas.List.Elements.{recursion_from_All}
 use Rattle.grid.specs.declared.shapes.Point.{Point}
@@ -63,3 +63,10 @@ turns_law triangles e (t ∷ ts) m (o ∷ os) (p ∷ ps) last other f g =
     let here = one_outcome triangles t e m o p f.0 g.0 f.1 g.1 in
     let there = turns_law triangles e ts f.0 os ps last other f.2 (subst (λ z. AreInserted triangles e ts z ps other) (sym here.1) g.2) in
     ((λ i. here.0 i ∷ there.0 i), there.1)
+
+-- triangles that are inserted in turn have an outcome each
+pub one-each : (triangles : List Tri) (e : ℕ) (numbers : List ℕ) (m last : Mesh) (outcomes : List Outcome) → AreInserted triangles e numbers m outcomes last → length outcomes ≡ length numbers
+one-each triangles e [] m last [] is = refl
+one-each triangles e [] m last (o ∷ outcomes) is = elim is [ ]
+one-each triangles e (t ∷ numbers) m last [] is = elim is [ ]
+one-each triangles e (t ∷ numbers) m last (o ∷ outcomes) is = ap suc (one-each triangles e numbers is.0 last outcomes is.2)

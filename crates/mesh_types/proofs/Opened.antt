@@ -7,6 +7,7 @@ use Rattle.mesh_types.proofs.Sums.{total}
 use Rattle.mesh_types.proofs.Replaced.{has_cases}
 use Rattle.mesh_types.proofs.Pieces.{sub-untouched}
 use Rattle.int_algebra.proofs.Laws.{linear}
+use mathlib.Core.Logic.{Ne-symm}
 
 -- a function of oriented faces
 pub record IsOfFaces (f : List ℕ → ℤ) : Type 0 where
@@ -38,142 +39,136 @@ pub record Opened (u v k : ℕ) (x : List ℕ) : Type 0 where
 one : (a : ℕ) → eqb a a ≡ true
 one a = eq-eqb a a refl
 
-no : (a b : ℕ) → a ≢ b → eqb a b ≡ false
-no a b h = ne_eqb a b h
-
-turn : {a b : ℕ} → a ≢ b → b ≢ a
-turn h e = h (sym e)
-
 open_ab : (a b c d k : ℕ) → AreFour a b c d → Opened a b k (a ∷ b ∷ c ∷ d ∷ [])
 open_ab a b c d k n = record {
   w = c;
   z = d;
-  excess_is = λ f t. simp (one a, one b, no b a (turn n.ab), no c a (turn n.ac), no d a (turn n.ad), no a b n.ab, no c b (turn n.bc), no d b (turn n.bd)) (omega (arith, linear, t.turned k c d, t.turned c d k, t.turned k d c, t.turned d c k));
-  corners_are = simp (one a, one b, one c, one d, no a b n.ab, no a c n.ac, no a d n.ad, no b a (turn n.ab), no b c n.bc, no b d n.bd, no c a (turn n.ac), no c b (turn n.bc), no c d n.cd, no d a (turn n.ad), no d b (turn n.bd), no d c (turn n.cd));
+  excess_is = λ f t. simp (one a, one b, ne_eqb b a (Ne-symm n.ab), ne_eqb c a (Ne-symm n.ac), ne_eqb d a (Ne-symm n.ad), ne_eqb a b n.ab, ne_eqb c b (Ne-symm n.bc), ne_eqb d b (Ne-symm n.bd)) (omega (arith, linear, t.turned k c d, t.turned c d k, t.turned k d c, t.turned d c k));
+  corners_are = simp (one a, one b, one c, one d, ne_eqb a b n.ab, ne_eqb a c n.ac, ne_eqb a d n.ad, ne_eqb b a (Ne-symm n.ab), ne_eqb b c n.bc, ne_eqb b d n.bd, ne_eqb c a (Ne-symm n.ac), ne_eqb c b (Ne-symm n.bc), ne_eqb c d n.cd, ne_eqb d a (Ne-symm n.ad), ne_eqb d b (Ne-symm n.bd), ne_eqb d c (Ne-symm n.cd));
   wz = n.cd;
-  no_u = simp (no c a (turn n.ac), no d a (turn n.ad));
-  no_v = simp (no c b (turn n.bc), no d b (turn n.bd));
+  no_u = simp (ne_eqb c a (Ne-symm n.ac), ne_eqb d a (Ne-symm n.ad));
+  no_v = simp (ne_eqb c b (Ne-symm n.bc), ne_eqb d b (Ne-symm n.bd));
 }
 
 open_ac : (a b c d k : ℕ) → AreFour a b c d → Opened a c k (a ∷ b ∷ c ∷ d ∷ [])
 open_ac a b c d k n = record {
   w = d;
   z = b;
-  excess_is = λ f t. simp (one a, one c, no b a (turn n.ab), no c a (turn n.ac), no d a (turn n.ad), no a c n.ac, no b c n.bc, no d c (turn n.cd)) (omega (arith, linear, t.turned k d b, t.turned d b k, t.turned k b d, t.turned b d k));
-  corners_are = simp (one a, one b, one c, one d, no a b n.ab, no a c n.ac, no a d n.ad, no b a (turn n.ab), no b c n.bc, no b d n.bd, no c a (turn n.ac), no c b (turn n.bc), no c d n.cd, no d a (turn n.ad), no d b (turn n.bd), no d c (turn n.cd));
-  wz = turn n.bd;
-  no_u = simp (no d a (turn n.ad), no b a (turn n.ab));
-  no_v = simp (no d c (turn n.cd), no b c n.bc);
+  excess_is = λ f t. simp (one a, one c, ne_eqb b a (Ne-symm n.ab), ne_eqb c a (Ne-symm n.ac), ne_eqb d a (Ne-symm n.ad), ne_eqb a c n.ac, ne_eqb b c n.bc, ne_eqb d c (Ne-symm n.cd)) (omega (arith, linear, t.turned k d b, t.turned d b k, t.turned k b d, t.turned b d k));
+  corners_are = simp (one a, one b, one c, one d, ne_eqb a b n.ab, ne_eqb a c n.ac, ne_eqb a d n.ad, ne_eqb b a (Ne-symm n.ab), ne_eqb b c n.bc, ne_eqb b d n.bd, ne_eqb c a (Ne-symm n.ac), ne_eqb c b (Ne-symm n.bc), ne_eqb c d n.cd, ne_eqb d a (Ne-symm n.ad), ne_eqb d b (Ne-symm n.bd), ne_eqb d c (Ne-symm n.cd));
+  wz = Ne-symm n.bd;
+  no_u = simp (ne_eqb d a (Ne-symm n.ad), ne_eqb b a (Ne-symm n.ab));
+  no_v = simp (ne_eqb d c (Ne-symm n.cd), ne_eqb b c n.bc);
 }
 
 open_ad : (a b c d k : ℕ) → AreFour a b c d → Opened a d k (a ∷ b ∷ c ∷ d ∷ [])
 open_ad a b c d k n = record {
   w = b;
   z = c;
-  excess_is = λ f t. simp (one a, one d, no b a (turn n.ab), no c a (turn n.ac), no d a (turn n.ad), no a d n.ad, no b d n.bd, no c d n.cd) (omega (arith, linear, t.turned k b c, t.turned b c k, t.turned k c b, t.turned c b k));
-  corners_are = simp (one a, one b, one c, one d, no a b n.ab, no a c n.ac, no a d n.ad, no b a (turn n.ab), no b c n.bc, no b d n.bd, no c a (turn n.ac), no c b (turn n.bc), no c d n.cd, no d a (turn n.ad), no d b (turn n.bd), no d c (turn n.cd));
+  excess_is = λ f t. simp (one a, one d, ne_eqb b a (Ne-symm n.ab), ne_eqb c a (Ne-symm n.ac), ne_eqb d a (Ne-symm n.ad), ne_eqb a d n.ad, ne_eqb b d n.bd, ne_eqb c d n.cd) (omega (arith, linear, t.turned k b c, t.turned b c k, t.turned k c b, t.turned c b k));
+  corners_are = simp (one a, one b, one c, one d, ne_eqb a b n.ab, ne_eqb a c n.ac, ne_eqb a d n.ad, ne_eqb b a (Ne-symm n.ab), ne_eqb b c n.bc, ne_eqb b d n.bd, ne_eqb c a (Ne-symm n.ac), ne_eqb c b (Ne-symm n.bc), ne_eqb c d n.cd, ne_eqb d a (Ne-symm n.ad), ne_eqb d b (Ne-symm n.bd), ne_eqb d c (Ne-symm n.cd));
   wz = n.bc;
-  no_u = simp (no b a (turn n.ab), no c a (turn n.ac));
-  no_v = simp (no b d n.bd, no c d n.cd);
+  no_u = simp (ne_eqb b a (Ne-symm n.ab), ne_eqb c a (Ne-symm n.ac));
+  no_v = simp (ne_eqb b d n.bd, ne_eqb c d n.cd);
 }
 
 open_ba : (a b c d k : ℕ) → AreFour a b c d → Opened b a k (a ∷ b ∷ c ∷ d ∷ [])
 open_ba a b c d k n = record {
   w = d;
   z = c;
-  excess_is = λ f t. simp (one b, one a, no a b n.ab, no c b (turn n.bc), no d b (turn n.bd), no b a (turn n.ab), no c a (turn n.ac), no d a (turn n.ad)) (omega (arith, linear, t.turned k d c, t.turned d c k, t.turned k c d, t.turned c d k));
-  corners_are = simp (one a, one b, one c, one d, no a b n.ab, no a c n.ac, no a d n.ad, no b a (turn n.ab), no b c n.bc, no b d n.bd, no c a (turn n.ac), no c b (turn n.bc), no c d n.cd, no d a (turn n.ad), no d b (turn n.bd), no d c (turn n.cd));
-  wz = turn n.cd;
-  no_u = simp (no d b (turn n.bd), no c b (turn n.bc));
-  no_v = simp (no d a (turn n.ad), no c a (turn n.ac));
+  excess_is = λ f t. simp (one b, one a, ne_eqb a b n.ab, ne_eqb c b (Ne-symm n.bc), ne_eqb d b (Ne-symm n.bd), ne_eqb b a (Ne-symm n.ab), ne_eqb c a (Ne-symm n.ac), ne_eqb d a (Ne-symm n.ad)) (omega (arith, linear, t.turned k d c, t.turned d c k, t.turned k c d, t.turned c d k));
+  corners_are = simp (one a, one b, one c, one d, ne_eqb a b n.ab, ne_eqb a c n.ac, ne_eqb a d n.ad, ne_eqb b a (Ne-symm n.ab), ne_eqb b c n.bc, ne_eqb b d n.bd, ne_eqb c a (Ne-symm n.ac), ne_eqb c b (Ne-symm n.bc), ne_eqb c d n.cd, ne_eqb d a (Ne-symm n.ad), ne_eqb d b (Ne-symm n.bd), ne_eqb d c (Ne-symm n.cd));
+  wz = Ne-symm n.cd;
+  no_u = simp (ne_eqb d b (Ne-symm n.bd), ne_eqb c b (Ne-symm n.bc));
+  no_v = simp (ne_eqb d a (Ne-symm n.ad), ne_eqb c a (Ne-symm n.ac));
 }
 
 open_bc : (a b c d k : ℕ) → AreFour a b c d → Opened b c k (a ∷ b ∷ c ∷ d ∷ [])
 open_bc a b c d k n = record {
   w = a;
   z = d;
-  excess_is = λ f t. simp (one b, one c, no a b n.ab, no c b (turn n.bc), no d b (turn n.bd), no a c n.ac, no b c n.bc, no d c (turn n.cd)) (omega (arith, linear, t.turned k a d, t.turned a d k, t.turned k d a, t.turned d a k));
-  corners_are = simp (one a, one b, one c, one d, no a b n.ab, no a c n.ac, no a d n.ad, no b a (turn n.ab), no b c n.bc, no b d n.bd, no c a (turn n.ac), no c b (turn n.bc), no c d n.cd, no d a (turn n.ad), no d b (turn n.bd), no d c (turn n.cd));
+  excess_is = λ f t. simp (one b, one c, ne_eqb a b n.ab, ne_eqb c b (Ne-symm n.bc), ne_eqb d b (Ne-symm n.bd), ne_eqb a c n.ac, ne_eqb b c n.bc, ne_eqb d c (Ne-symm n.cd)) (omega (arith, linear, t.turned k a d, t.turned a d k, t.turned k d a, t.turned d a k));
+  corners_are = simp (one a, one b, one c, one d, ne_eqb a b n.ab, ne_eqb a c n.ac, ne_eqb a d n.ad, ne_eqb b a (Ne-symm n.ab), ne_eqb b c n.bc, ne_eqb b d n.bd, ne_eqb c a (Ne-symm n.ac), ne_eqb c b (Ne-symm n.bc), ne_eqb c d n.cd, ne_eqb d a (Ne-symm n.ad), ne_eqb d b (Ne-symm n.bd), ne_eqb d c (Ne-symm n.cd));
   wz = n.ad;
-  no_u = simp (no a b n.ab, no d b (turn n.bd));
-  no_v = simp (no a c n.ac, no d c (turn n.cd));
+  no_u = simp (ne_eqb a b n.ab, ne_eqb d b (Ne-symm n.bd));
+  no_v = simp (ne_eqb a c n.ac, ne_eqb d c (Ne-symm n.cd));
 }
 
 open_bd : (a b c d k : ℕ) → AreFour a b c d → Opened b d k (a ∷ b ∷ c ∷ d ∷ [])
 open_bd a b c d k n = record {
   w = c;
   z = a;
-  excess_is = λ f t. simp (one b, one d, no a b n.ab, no c b (turn n.bc), no d b (turn n.bd), no a d n.ad, no b d n.bd, no c d n.cd) (omega (arith, linear, t.turned k c a, t.turned c a k, t.turned k a c, t.turned a c k));
-  corners_are = simp (one a, one b, one c, one d, no a b n.ab, no a c n.ac, no a d n.ad, no b a (turn n.ab), no b c n.bc, no b d n.bd, no c a (turn n.ac), no c b (turn n.bc), no c d n.cd, no d a (turn n.ad), no d b (turn n.bd), no d c (turn n.cd));
-  wz = turn n.ac;
-  no_u = simp (no c b (turn n.bc), no a b n.ab);
-  no_v = simp (no c d n.cd, no a d n.ad);
+  excess_is = λ f t. simp (one b, one d, ne_eqb a b n.ab, ne_eqb c b (Ne-symm n.bc), ne_eqb d b (Ne-symm n.bd), ne_eqb a d n.ad, ne_eqb b d n.bd, ne_eqb c d n.cd) (omega (arith, linear, t.turned k c a, t.turned c a k, t.turned k a c, t.turned a c k));
+  corners_are = simp (one a, one b, one c, one d, ne_eqb a b n.ab, ne_eqb a c n.ac, ne_eqb a d n.ad, ne_eqb b a (Ne-symm n.ab), ne_eqb b c n.bc, ne_eqb b d n.bd, ne_eqb c a (Ne-symm n.ac), ne_eqb c b (Ne-symm n.bc), ne_eqb c d n.cd, ne_eqb d a (Ne-symm n.ad), ne_eqb d b (Ne-symm n.bd), ne_eqb d c (Ne-symm n.cd));
+  wz = Ne-symm n.ac;
+  no_u = simp (ne_eqb c b (Ne-symm n.bc), ne_eqb a b n.ab);
+  no_v = simp (ne_eqb c d n.cd, ne_eqb a d n.ad);
 }
 
 open_ca : (a b c d k : ℕ) → AreFour a b c d → Opened c a k (a ∷ b ∷ c ∷ d ∷ [])
 open_ca a b c d k n = record {
   w = b;
   z = d;
-  excess_is = λ f t. simp (one c, one a, no a c n.ac, no b c n.bc, no d c (turn n.cd), no b a (turn n.ab), no c a (turn n.ac), no d a (turn n.ad)) (omega (arith, linear, t.turned k b d, t.turned b d k, t.turned k d b, t.turned d b k));
-  corners_are = simp (one a, one b, one c, one d, no a b n.ab, no a c n.ac, no a d n.ad, no b a (turn n.ab), no b c n.bc, no b d n.bd, no c a (turn n.ac), no c b (turn n.bc), no c d n.cd, no d a (turn n.ad), no d b (turn n.bd), no d c (turn n.cd));
+  excess_is = λ f t. simp (one c, one a, ne_eqb a c n.ac, ne_eqb b c n.bc, ne_eqb d c (Ne-symm n.cd), ne_eqb b a (Ne-symm n.ab), ne_eqb c a (Ne-symm n.ac), ne_eqb d a (Ne-symm n.ad)) (omega (arith, linear, t.turned k b d, t.turned b d k, t.turned k d b, t.turned d b k));
+  corners_are = simp (one a, one b, one c, one d, ne_eqb a b n.ab, ne_eqb a c n.ac, ne_eqb a d n.ad, ne_eqb b a (Ne-symm n.ab), ne_eqb b c n.bc, ne_eqb b d n.bd, ne_eqb c a (Ne-symm n.ac), ne_eqb c b (Ne-symm n.bc), ne_eqb c d n.cd, ne_eqb d a (Ne-symm n.ad), ne_eqb d b (Ne-symm n.bd), ne_eqb d c (Ne-symm n.cd));
   wz = n.bd;
-  no_u = simp (no b c n.bc, no d c (turn n.cd));
-  no_v = simp (no b a (turn n.ab), no d a (turn n.ad));
+  no_u = simp (ne_eqb b c n.bc, ne_eqb d c (Ne-symm n.cd));
+  no_v = simp (ne_eqb b a (Ne-symm n.ab), ne_eqb d a (Ne-symm n.ad));
 }
 
 open_cb : (a b c d k : ℕ) → AreFour a b c d → Opened c b k (a ∷ b ∷ c ∷ d ∷ [])
 open_cb a b c d k n = record {
   w = d;
   z = a;
-  excess_is = λ f t. simp (one c, one b, no a c n.ac, no b c n.bc, no d c (turn n.cd), no a b n.ab, no c b (turn n.bc), no d b (turn n.bd)) (omega (arith, linear, t.turned k d a, t.turned d a k, t.turned k a d, t.turned a d k));
-  corners_are = simp (one a, one b, one c, one d, no a b n.ab, no a c n.ac, no a d n.ad, no b a (turn n.ab), no b c n.bc, no b d n.bd, no c a (turn n.ac), no c b (turn n.bc), no c d n.cd, no d a (turn n.ad), no d b (turn n.bd), no d c (turn n.cd));
-  wz = turn n.ad;
-  no_u = simp (no d c (turn n.cd), no a c n.ac);
-  no_v = simp (no d b (turn n.bd), no a b n.ab);
+  excess_is = λ f t. simp (one c, one b, ne_eqb a c n.ac, ne_eqb b c n.bc, ne_eqb d c (Ne-symm n.cd), ne_eqb a b n.ab, ne_eqb c b (Ne-symm n.bc), ne_eqb d b (Ne-symm n.bd)) (omega (arith, linear, t.turned k d a, t.turned d a k, t.turned k a d, t.turned a d k));
+  corners_are = simp (one a, one b, one c, one d, ne_eqb a b n.ab, ne_eqb a c n.ac, ne_eqb a d n.ad, ne_eqb b a (Ne-symm n.ab), ne_eqb b c n.bc, ne_eqb b d n.bd, ne_eqb c a (Ne-symm n.ac), ne_eqb c b (Ne-symm n.bc), ne_eqb c d n.cd, ne_eqb d a (Ne-symm n.ad), ne_eqb d b (Ne-symm n.bd), ne_eqb d c (Ne-symm n.cd));
+  wz = Ne-symm n.ad;
+  no_u = simp (ne_eqb d c (Ne-symm n.cd), ne_eqb a c n.ac);
+  no_v = simp (ne_eqb d b (Ne-symm n.bd), ne_eqb a b n.ab);
 }
 
 open_cd : (a b c d k : ℕ) → AreFour a b c d → Opened c d k (a ∷ b ∷ c ∷ d ∷ [])
 open_cd a b c d k n = record {
   w = a;
   z = b;
-  excess_is = λ f t. simp (one c, one d, no a c n.ac, no b c n.bc, no d c (turn n.cd), no a d n.ad, no b d n.bd, no c d n.cd) (omega (arith, linear, t.turned k a b, t.turned a b k, t.turned k b a, t.turned b a k));
-  corners_are = simp (one a, one b, one c, one d, no a b n.ab, no a c n.ac, no a d n.ad, no b a (turn n.ab), no b c n.bc, no b d n.bd, no c a (turn n.ac), no c b (turn n.bc), no c d n.cd, no d a (turn n.ad), no d b (turn n.bd), no d c (turn n.cd));
+  excess_is = λ f t. simp (one c, one d, ne_eqb a c n.ac, ne_eqb b c n.bc, ne_eqb d c (Ne-symm n.cd), ne_eqb a d n.ad, ne_eqb b d n.bd, ne_eqb c d n.cd) (omega (arith, linear, t.turned k a b, t.turned a b k, t.turned k b a, t.turned b a k));
+  corners_are = simp (one a, one b, one c, one d, ne_eqb a b n.ab, ne_eqb a c n.ac, ne_eqb a d n.ad, ne_eqb b a (Ne-symm n.ab), ne_eqb b c n.bc, ne_eqb b d n.bd, ne_eqb c a (Ne-symm n.ac), ne_eqb c b (Ne-symm n.bc), ne_eqb c d n.cd, ne_eqb d a (Ne-symm n.ad), ne_eqb d b (Ne-symm n.bd), ne_eqb d c (Ne-symm n.cd));
   wz = n.ab;
-  no_u = simp (no a c n.ac, no b c n.bc);
-  no_v = simp (no a d n.ad, no b d n.bd);
+  no_u = simp (ne_eqb a c n.ac, ne_eqb b c n.bc);
+  no_v = simp (ne_eqb a d n.ad, ne_eqb b d n.bd);
 }
 
 open_da : (a b c d k : ℕ) → AreFour a b c d → Opened d a k (a ∷ b ∷ c ∷ d ∷ [])
 open_da a b c d k n = record {
   w = c;
   z = b;
-  excess_is = λ f t. simp (one d, one a, no a d n.ad, no b d n.bd, no c d n.cd, no b a (turn n.ab), no c a (turn n.ac), no d a (turn n.ad)) (omega (arith, linear, t.turned k c b, t.turned c b k, t.turned k b c, t.turned b c k));
-  corners_are = simp (one a, one b, one c, one d, no a b n.ab, no a c n.ac, no a d n.ad, no b a (turn n.ab), no b c n.bc, no b d n.bd, no c a (turn n.ac), no c b (turn n.bc), no c d n.cd, no d a (turn n.ad), no d b (turn n.bd), no d c (turn n.cd));
-  wz = turn n.bc;
-  no_u = simp (no c d n.cd, no b d n.bd);
-  no_v = simp (no c a (turn n.ac), no b a (turn n.ab));
+  excess_is = λ f t. simp (one d, one a, ne_eqb a d n.ad, ne_eqb b d n.bd, ne_eqb c d n.cd, ne_eqb b a (Ne-symm n.ab), ne_eqb c a (Ne-symm n.ac), ne_eqb d a (Ne-symm n.ad)) (omega (arith, linear, t.turned k c b, t.turned c b k, t.turned k b c, t.turned b c k));
+  corners_are = simp (one a, one b, one c, one d, ne_eqb a b n.ab, ne_eqb a c n.ac, ne_eqb a d n.ad, ne_eqb b a (Ne-symm n.ab), ne_eqb b c n.bc, ne_eqb b d n.bd, ne_eqb c a (Ne-symm n.ac), ne_eqb c b (Ne-symm n.bc), ne_eqb c d n.cd, ne_eqb d a (Ne-symm n.ad), ne_eqb d b (Ne-symm n.bd), ne_eqb d c (Ne-symm n.cd));
+  wz = Ne-symm n.bc;
+  no_u = simp (ne_eqb c d n.cd, ne_eqb b d n.bd);
+  no_v = simp (ne_eqb c a (Ne-symm n.ac), ne_eqb b a (Ne-symm n.ab));
 }
 
 open_db : (a b c d k : ℕ) → AreFour a b c d → Opened d b k (a ∷ b ∷ c ∷ d ∷ [])
 open_db a b c d k n = record {
   w = a;
   z = c;
-  excess_is = λ f t. simp (one d, one b, no a d n.ad, no b d n.bd, no c d n.cd, no a b n.ab, no c b (turn n.bc), no d b (turn n.bd)) (omega (arith, linear, t.turned k a c, t.turned a c k, t.turned k c a, t.turned c a k));
-  corners_are = simp (one a, one b, one c, one d, no a b n.ab, no a c n.ac, no a d n.ad, no b a (turn n.ab), no b c n.bc, no b d n.bd, no c a (turn n.ac), no c b (turn n.bc), no c d n.cd, no d a (turn n.ad), no d b (turn n.bd), no d c (turn n.cd));
+  excess_is = λ f t. simp (one d, one b, ne_eqb a d n.ad, ne_eqb b d n.bd, ne_eqb c d n.cd, ne_eqb a b n.ab, ne_eqb c b (Ne-symm n.bc), ne_eqb d b (Ne-symm n.bd)) (omega (arith, linear, t.turned k a c, t.turned a c k, t.turned k c a, t.turned c a k));
+  corners_are = simp (one a, one b, one c, one d, ne_eqb a b n.ab, ne_eqb a c n.ac, ne_eqb a d n.ad, ne_eqb b a (Ne-symm n.ab), ne_eqb b c n.bc, ne_eqb b d n.bd, ne_eqb c a (Ne-symm n.ac), ne_eqb c b (Ne-symm n.bc), ne_eqb c d n.cd, ne_eqb d a (Ne-symm n.ad), ne_eqb d b (Ne-symm n.bd), ne_eqb d c (Ne-symm n.cd));
   wz = n.ac;
-  no_u = simp (no a d n.ad, no c d n.cd);
-  no_v = simp (no a b n.ab, no c b (turn n.bc));
+  no_u = simp (ne_eqb a d n.ad, ne_eqb c d n.cd);
+  no_v = simp (ne_eqb a b n.ab, ne_eqb c b (Ne-symm n.bc));
 }
 
 open_dc : (a b c d k : ℕ) → AreFour a b c d → Opened d c k (a ∷ b ∷ c ∷ d ∷ [])
 open_dc a b c d k n = record {
   w = b;
   z = a;
-  excess_is = λ f t. simp (one d, one c, no a d n.ad, no b d n.bd, no c d n.cd, no a c n.ac, no b c n.bc, no d c (turn n.cd)) (omega (arith, linear, t.turned k b a, t.turned b a k, t.turned k a b, t.turned a b k));
-  corners_are = simp (one a, one b, one c, one d, no a b n.ab, no a c n.ac, no a d n.ad, no b a (turn n.ab), no b c n.bc, no b d n.bd, no c a (turn n.ac), no c b (turn n.bc), no c d n.cd, no d a (turn n.ad), no d b (turn n.bd), no d c (turn n.cd));
-  wz = turn n.ab;
-  no_u = simp (no b d n.bd, no a d n.ad);
-  no_v = simp (no b c n.bc, no a c n.ac);
+  excess_is = λ f t. simp (one d, one c, ne_eqb a d n.ad, ne_eqb b d n.bd, ne_eqb c d n.cd, ne_eqb a c n.ac, ne_eqb b c n.bc, ne_eqb d c (Ne-symm n.cd)) (omega (arith, linear, t.turned k b a, t.turned b a k, t.turned k a b, t.turned a b k));
+  corners_are = simp (one a, one b, one c, one d, ne_eqb a b n.ab, ne_eqb a c n.ac, ne_eqb a d n.ad, ne_eqb b a (Ne-symm n.ab), ne_eqb b c n.bc, ne_eqb b d n.bd, ne_eqb c a (Ne-symm n.ac), ne_eqb c b (Ne-symm n.bc), ne_eqb c d n.cd, ne_eqb d a (Ne-symm n.ad), ne_eqb d b (Ne-symm n.bd), ne_eqb d c (Ne-symm n.cd));
+  wz = Ne-symm n.ab;
+  no_u = simp (ne_eqb b d n.bd, ne_eqb a d n.ad);
+  no_v = simp (ne_eqb b c n.bc, ne_eqb a c n.ac);
 }
 
 -- the place of a corner

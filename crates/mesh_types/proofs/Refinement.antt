@@ -1,10 +1,12 @@
 -- Refinement keeps that a mesh weaves.
-use Rattle.std.proofs.Common.{◌≡◌, ◌≢◌, ℕ, ◌+◌, ◌<◌, List, [], ◌∷◌, ◌++◌, map, length, append_assoc, Bool, true, false, not, ◌&&◌, ◌||◌, eqb, ltb, ap, refl, sym, subst, ◌∙◌, arith, inl, inr}
+use Rattle.std.proofs.Common.{◌≡◌, ℕ, ◌+◌, ◌<◌, List, [], ◌∷◌, ◌++◌, map, length, append_assoc, Bool, true, false, not, ◌&&◌, ◌||◌, eqb, ltb, ap, refl, sym, subst, ◌∙◌, arith, inl, inr}
 use Rattle.std.specs.List.{flat_map, filter, All, AllByRecursion as Each}
 use Rattle.std.proofs.lemmas.Bool.{cases_Bool, or_parts, true≢false}
 use Rattle.std.proofs.lemmas.List.{append-nil, length-append}
 use Rattle.std.proofs.lemmas.List.Concat.{flat_map-append}
 use Rattle.std.proofs.lemmas.List.Elements.{All-from_recursion, recursion_from_All}
+use native.Mathlib.Nat.{ne_of_lt}
+use mathlib.Core.Logic.{Ne-symm}
 use Rattle.grid.specs.declared.shapes.Point.{Point}
 use Rattle.grid.specs.Simplices.{insert_number, rising, has, sub, all_faces, same_corners, AreDifferent, IsTet}
 use Rattle.grid.specs.Boxes.{IsOn}
@@ -42,11 +44,8 @@ cut-append points p l e c = record {
   ends_differ = c.ends_differ;
   first_in = omega (arith, length-append points (p ∷ []), c.first_in);
   second_in = omega (arith, length-append points (p ∷ []), c.second_in);
-  on_sides = λ s g h. c.on_sides s (subst (IsOn l s) (point_at-append points p e.u (below_not _ _ c.first_in)) g) (subst (IsOn l s) (point_at-append points p e.v (below_not _ _ c.second_in)) h);
+  on_sides = λ s g h. c.on_sides s (subst (IsOn l s) (point_at-append points p e.u (ne_of_lt c.first_in)) g) (subst (IsOn l s) (point_at-append points p e.v (ne_of_lt c.second_in)) h);
 }
-  where
-    below_not : (a n : ℕ) → a < n → a ≢ n
-    below_not a n h f = omega arith
 
 weaves-all : (points : List Point) (ts tracked : List (List ℕ)) (l : ℕ) (es : List Cut) → Each (Cornered (length points)) ts → Each (IsCutOf points l) es → Woven points ts tracked l
     → Woven (points ++ map (λ e. e.at) es) (flat_map (sub_all (length points) es) ts) (flat_map (sub_all (length points) es) tracked) l
@@ -114,9 +113,6 @@ Each-in_order P (x ∷ xs) h = Each-insert_triple P x (in_order xs) h.0 (Each-in
 pub cornered_of : (n : ℕ) (x : List ℕ) → IsTet n x → Cornered n x
 cornered_of n x t = corners x t.four t.different (λ o h. below x (recursion_from_All (λ c. c < n) x t.in_range) o h)
   where
-    turn : {a b : ℕ} → a ≢ b → b ≢ a
-    turn h e = h (sym e)
-
     below : (x : List ℕ) → Each (λ c. c < n) x → (o : ℕ) → has x o ≡ true → o < n
     below [] h o g = absurd (true≢false (sym g))
     below (a ∷ x) h o g = elim (has_cases a x o g) [ inl e ↦ subst (λ m. m < n) e h.0 | inr e ↦ below x h.1 o e ]
@@ -133,12 +129,12 @@ cornered_of n x t = corners x t.four t.different (λ o h. below x (recursion_fro
           d = d;
           is = refl;
           different = record {
-            ab = turn p.0;
-            ac = turn q.0;
-            ad = turn (has_none d [] a q.1).0;
-            bc = turn r.0;
-            bd = turn (has_none d [] b r.1).0;
-            cd = turn (has_none d [] c f.1.1.0).0;
+            ab = Ne-symm p.0;
+            ac = Ne-symm q.0;
+            ad = Ne-symm (has_none d [] a q.1).0;
+            bc = Ne-symm r.0;
+            bd = Ne-symm (has_none d [] b r.1).0;
+            cd = Ne-symm (has_none d [] c f.1.1.0).0;
           };
           below = g;
         }

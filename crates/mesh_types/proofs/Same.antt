@@ -4,6 +4,7 @@ use Rattle.std.proofs.lemmas.Bool.{eq-eqb, eqb-true, and_parts, and_from, or_cas
 use Rattle.grid.specs.Simplices.{has, put, replaced, equal3, is_rotation, reversed, has_all, same_corners}
 use Rattle.mesh_types.proofs.Replaced.{same_bools, has_cases, put_cases, has-replaced_new}
 use Rattle.mesh_types.proofs.Pieces.{IsSameness}
+use Rattle.grid.proofs.Rotations.{equal3-refl}
 
 -- ---- rotations
 equal3_parts : (a b c u v w : ℕ) → equal3 a b c u v w ≡ true → (a ≡ u) × (b ≡ v) × (c ≡ w)
@@ -11,9 +12,6 @@ equal3_parts a b c u v w h =
     let p = and_parts (eqb a u && eqb b v) (eqb c w) h in
     let q = and_parts (eqb a u) (eqb b v) p.0 in
     (eqb-true a u q.0, eqb-true b v q.1, eqb-true c w p.1)
-
-equal3_same : (a b c : ℕ) → equal3 a b c a b c ≡ true
-equal3_same a b c = and_from (eqb a a && eqb b b) (eqb c c) (and_from (eqb a a) (eqb b b) (eq-eqb a a refl) (eq-eqb b b refl)) (eq-eqb c c refl)
 
 pub data Turn (y z : List ℕ) : Type 0 where
   still : (a b c : ℕ) → y ≡ a ∷ b ∷ c ∷ [] → z ≡ a ∷ b ∷ c ∷ [] → Turn y z
@@ -44,13 +42,13 @@ turn_of (a ∷ b ∷ c ∷ []) (u ∷ v ∷ []) h = absurd (true≢false (sym h)
 turn_of (a ∷ b ∷ c ∷ []) (u ∷ v ∷ w ∷ x ∷ z) h = absurd (true≢false (sym h))
 
 pub rotation_still : (a b c : ℕ) → is_rotation (a ∷ b ∷ c ∷ []) (a ∷ b ∷ c ∷ []) ≡ true
-rotation_still a b c = or_left (equal3 a b c a b c || equal3 a b c b c a) (equal3 a b c c a b) (or_left (equal3 a b c a b c) (equal3 a b c b c a) (equal3_same a b c))
+rotation_still a b c = or_left (equal3 a b c a b c || equal3 a b c b c a) (equal3 a b c c a b) (or_left (equal3 a b c a b c) (equal3 a b c b c a) (equal3-refl a b c))
 
 pub rotation_once : (a b c : ℕ) → is_rotation (a ∷ b ∷ c ∷ []) (c ∷ a ∷ b ∷ []) ≡ true
-rotation_once a b c = or_left (equal3 a b c c a b || equal3 a b c a b c) (equal3 a b c b c a) (or_right (equal3 a b c c a b) (equal3 a b c a b c) (equal3_same a b c))
+rotation_once a b c = or_left (equal3 a b c c a b || equal3 a b c a b c) (equal3 a b c b c a) (or_right (equal3 a b c c a b) (equal3 a b c a b c) (equal3-refl a b c))
 
 pub rotation_twice : (a b c : ℕ) → is_rotation (a ∷ b ∷ c ∷ []) (b ∷ c ∷ a ∷ []) ≡ true
-rotation_twice a b c = or_right (equal3 a b c b c a || equal3 a b c c a b) (equal3 a b c a b c) (equal3_same a b c)
+rotation_twice a b c = or_right (equal3 a b c b c a || equal3 a b c c a b) (equal3 a b c a b c) (equal3-refl a b c)
 
 pub rotation_from : (y z : List ℕ) → Turn y z → is_rotation y z ≡ true
 rotation_from y z (still a b c e f) = rw (e, f) (rotation_still a b c)

@@ -1,5 +1,5 @@
 -- A part of a run keeps that the mesh tiles and that its tracked faces have certificates.
-use Rattle.std.proofs.Common.{◌≡◌, ℕ, suc, ℤ, true, false, eqb, List, [], ◌∷◌, length, All, refl, sym, ap, subst, arith}
+use Rattle.std.proofs.Common.{◌≡◌, ℕ, ℤ, true, false, eqb, List, [], ◌∷◌, length, All, refl, sym, subst, arith}
 use Rattle.std.proofs.lemmas.Bool.{true≢false, eqb-true}
 use Rattle.std.specs.List.{AllByRecursion as Each}
 use Rattle.std.proofs.lemmas.List.Elements.{All-from_recursion, recursion_from_All}
@@ -50,14 +50,6 @@ pub turns-covered : (triangles : List Tri) (e : ℕ) (side : ℤ) (numbers : Lis
 turns-covered triangles e side numbers start m outcomes w v turns c =
     let s = setting triangles e side in
     all-covered s m v (turns.covered (all-bare s start w c))
-
--- ---- outcomes
--- each triangle has one
-pub one-each : (triangles : List Tri) (e : ℕ) (numbers : List ℕ) (start m : Mesh) (outcomes : List Outcome) → AreInserted triangles e numbers start outcomes m → length outcomes ≡ length numbers
-one-each triangles e [] start m [] is = refl
-one-each triangles e [] start m (o ∷ outcomes) is = elim is [ ]
-one-each triangles e (t ∷ numbers) start m [] is = elim is [ ]
-one-each triangles e (t ∷ numbers) start m (o ∷ outcomes) is = ap suc (one-each triangles e numbers is.0 m outcomes is.2)
 
 pub is_none : (again : List Again) → eqb (length again) 0 ≡ true → again ≡ []
 is_none [] is = refl

@@ -1,5 +1,5 @@
 mod Certified
 mod Keeping
-pub mod Beginning
+mod Beginning
 mod Ending
 pub mod OneMesh

@@ -9,7 +9,7 @@ use Rattle.grid.specs.declared.shapes.Face.{Face}
 use Rattle.grid.specs.Simplices.{Rises}
 use Rattle.grid.specs.Meshes.{is_below, Ordered}
 use Rattle.lines.specs.Forms.{repeat}
-use Rattle.lines.proofs.CanSay.{CanSay, says_done, says_field, says_then, says_fixed, says_lines, says_rows, says_all, is_text, three_items, four_items}
+use Rattle.lines.proofs.ForCallers.{CanSay, says_done, says_field, says_then, says_fixed, says_lines, says_rows, says_all, is_text, three_items, four_items}
 use Rattle.msh_text.specs.declared.file_mesh.MshNode.{MshNode}
 use Rattle.msh_text.specs.declared.file_mesh.MshTet.{MshTet}
 use Rattle.msh_text.specs.declared.file_mesh.MshMesh.{MshMesh}

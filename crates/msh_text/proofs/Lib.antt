@@ -1,7 +1,8 @@
 mod InRange
 mod KeptNodes
 mod Nodes
-pub mod Reading
-pub mod SaysText
-pub mod OneReading
-pub mod Keeping
+mod Reading
+mod SaysText
+mod OneReading
+mod Keeping
+pub mod ForCallers

@@ -6,8 +6,7 @@ use Rattle.std.proofs.lemmas.List.{length-append, append-nil}
 use Rattle.grid.specs.declared.shapes.Face.{Face}
 use Rattle.lines.specs.Forms.{choose, repeat, Says, Reads}
 use Rattle.lines.specs.Fields.{space, feed, word, decimals, decimal_word}
-use Rattle.lines.proofs.Chains.{OneMore, lines_text, no_places, repeat_text}
-use Rattle.lines.proofs.Laws.{nothing_left}
+use Rattle.lines.proofs.ForCallers.{OneMore, lines_text, no_places, repeat_text, nothing_left}
 use Rattle.msh_text.specs.declared.file_mesh.MshNode.{MshNode}
 use Rattle.msh_text.specs.declared.file_mesh.MshTet.{MshTet}
 use Rattle.msh_text.specs.declared.file_mesh.MshMesh.{MshMesh}

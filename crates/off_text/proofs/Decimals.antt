@@ -1,8 +1,9 @@
 -- Numbers by their digits, with a largest one, and tests of each byte.
 use Rattle.std.proofs.Common.{◌≡◌, ℕ, suc, ◌+◌, ◌-◌, ◌*◌, ◌<◌, ◌≤◌, ◌&&◌, min, not, eqb, Bool, true, false, List, [], ◌∷◌, length, drop, take, slice_index, refl, sym, ap, ◌∙◌, arith}
-use Rattle.std.proofs.lemmas.Bool.{true≢false, eqb-true}
+use Rattle.std.proofs.lemmas.Bool.{true≢false, eqb-true, and_parts}
 use Rattle.std.specs.List.{fold, list_all, prefix_len, take_while}
 use Rattle.std.specs.Char.{is_ascii_digit}
+use mathlib.Core.Bool.{and-false}
 use Rattle.off_text.specs.Numbers.{decimal, is_number, is_empty}
 use Rattle.off_text.proofs.Tokens.{by_test}
 use Rattle.off_text.proofs.Steps.{cut, passes, fails}
@@ -28,11 +29,7 @@ decimal_goes_on most n next i total digits lt is h =
     ∙ sym (ap (λ ds. min (continued n ds) most) (cut digits i lt)) ∙ h
 
 pub all_go_on : (test : ℕ → Bool) (i : ℕ) (bs : List ℕ) → i < length bs → list_all test (drop i bs) ≡ true → list_all test (drop (i + 1) bs) ≡ true
-all_go_on test i bs lt h = both (test (slice_index bs i)) _ (sym (ap (list_all test) (cut bs i lt)) ∙ h)
-  where
-    both : (a b : Bool) → a && b ≡ true → b ≡ true
-    both true b e = e
-    both false b e = absurd (true≢false (sym e))
+all_go_on test i bs lt h = (and_parts (test (slice_index bs i)) _ (sym (ap (list_all test) (cut bs i lt)) ∙ h)).1
 
 -- ---- all bytes pass a test
 pub all_pass : (test : ℕ → Bool) (bs : List ℕ) → length bs ≤ prefix_len test bs → list_all test bs ≡ true
@@ -61,11 +58,7 @@ not_number_empty [] h = refl
 not_number_empty (b ∷ bs) h = let none : length (b ∷ bs) ≡ 0 = eqb-true (length (b ∷ bs)) 0 h in absurd (omega arith)
 
 pub not_number : (word : List ℕ) → prefix_len is_ascii_digit word < length word → is_number word ≡ false
-not_number word h = ap (λ t. not (is_empty word) && t) (not_all_pass is_ascii_digit word h) ∙ and_false (not (is_empty word))
-  where
-    and_false : (t : Bool) → t && false ≡ false
-    and_false true = refl
-    and_false false = refl
+not_number word h = ap (λ t. not (is_empty word) && t) (not_all_pass is_ascii_digit word h) ∙ and-false (not (is_empty word))
 
 pub number_is : (word : List ℕ) → eqb (length word) 0 ≡ false → length word ≤ prefix_len is_ascii_digit word → is_number word ≡ true
 number_is [] h few = absurd (true≢false h)

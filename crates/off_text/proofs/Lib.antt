@@ -1,13 +1,13 @@
-pub mod Tokens
-pub mod Steps
-pub mod Decimals
-pub mod Coordinates
-pub mod Loops
-pub mod Whole
-pub mod WithinLimits
-pub mod Numerals
-pub mod Rounded
-pub mod WrittenWords
-pub mod WrittenNumbers
+mod Tokens
+mod Steps
+mod Decimals
+mod Coordinates
+mod Loops
+mod Whole
+mod WithinLimits
+mod Numerals
+mod Rounded
+mod WrittenWords
+mod WrittenNumbers
 pub mod ReadBack
-pub mod Writing
+mod Writing

@@ -3,6 +3,7 @@ use Rattle.std.proofs.Common.{◌≡◌, ℕ, ◌+◌, ◌<◌, ◌≤◌, ◌&&
 use Rattle.std.proofs.Math.Seq.{drop-nil}
 use Rattle.std.proofs.lemmas.Bool.{eqb-true, le-ltb, lt-ltb, eq-eqb, true≢false}
 use Rattle.std.specs.List.{prefix_len, filter, AllByRecursion}
+use mathlib.Core.Bool.{and-false}
 use Rattle.off_text.specs.Words.{is_blank, Word, joined, words_from, to_line_feed}
 use Rattle.off_text.specs.Scans.{is_inner}
 
@@ -124,11 +125,7 @@ inner-not_hash : (b : ℕ) → is_inner b ≡ true → eqb b 35 ≡ false
 inner-not_hash b inner = by_test (eqb b 35) (λ is. absurd (true≢false (sym inner ∙ ap (λ t. not t && not (is_blank b)) is))) (λ is. is)
 
 inner-not_blank : (b : ℕ) → is_inner b ≡ true → is_blank b ≡ false
-inner-not_blank b inner = by_test (is_blank b) (λ is. absurd (true≢false (sym inner ∙ ap (λ t. not (eqb b 35) && not t) is ∙ and_false (not (eqb b 35))))) (λ is. is)
-  where
-    and_false : (t : Bool) → t && false ≡ false
-    and_false true = refl
-    and_false false = refl
+inner-not_blank b inner = by_test (is_blank b) (λ is. absurd (true≢false (sym inner ∙ ap (λ t. not (eqb b 35) && not t) is ∙ and-false (not (eqb b 35))))) (λ is. is)
 
 together : (b p l : ℕ) (w : Word) (ws : List Word) → w.place ≡ p + 1 → joined b p l (w ∷ ws) ≡ record { bytes = b ∷ w.bytes; place = p; line_end = l } ∷ ws
 together b p l w ws is = ap (λ t. cond t (record { bytes = b ∷ w.bytes; place = p; line_end = l } ∷ ws) (record { bytes = b ∷ []; place = p; line_end = l } ∷ w ∷ ws)) (eq-eqb w.place (p + 1) is)

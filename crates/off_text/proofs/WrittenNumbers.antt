@@ -1,6 +1,6 @@
 -- What the words that are written say.
 use Rattle.std.proofs.Common.{◌≡◌, ℕ, suc, ◌+◌, ◌-◌, ◌^◌, ◌<◌, ◌≤◌, ◌&&◌, ◌||◌, not, cond, nat_lt, Bool, true, false, List, [], ◌∷◌, length, drop, take, Ok, None, refl, sym, ap, ap₂, ◌∙◌, arith, ℤ, pos, negsuc}
-use Rattle.std.proofs.lemmas.Bool.{lt-ltb, le-ltb, true≢false}
+use Rattle.std.proofs.lemmas.Bool.{lt-ltb, le-ltb, true≢false, and_parts}
 use Rattle.std.proofs.Math.Seq.{take-length}
 use Rattle.std.specs.Prelude.{decimal as written, codes}
 use Rattle.std.specs.Fmt.{signed_decimal}
@@ -69,11 +69,7 @@ all_front : (ds : List ℕ) → list_all is_ascii_digit ds ≡ true → prefix_l
 all_front [] h = refl
 all_front (d ∷ ds) h =
     let here : prefix_len is_ascii_digit (d ∷ ds) ≡ 1 + prefix_len is_ascii_digit ds = passes is_ascii_digit d ds (first_digit d ds h) in
-    omega (arith, here, all_front ds (others (is_ascii_digit d) (list_all is_ascii_digit ds) h))
-  where
-    others : (a b : Bool) → a && b ≡ true → b ≡ true
-    others true b e = e
-    others false b e = absurd (true≢false (sym e))
+    omega (arith, here, all_front ds (and_parts (is_ascii_digit d) (list_all is_ascii_digit ds) h).1)
 
 digits_alone : List ℕ → Parts
 digits_alone ds = record { whole = ds; fraction = []; rest = [] }

@@ -1,11 +1,12 @@
 -- A text whose words are each followed by one blank, word after word.
 use Rattle.std.proofs.Common.{◌≡◌, ℕ, ◌+◌, ◌<◌, ◌&&◌, ◌||◌, not, eqb, Bool, true, false, List, [], ◌∷◌, ◌++◌, length, drop, take, Result, Ok, refl, sym, ap, ap₂, ◌∙◌, arith}
-use Rattle.std.proofs.lemmas.Bool.{ne_eqb, true≢false}
+use Rattle.std.proofs.lemmas.Bool.{ne_eqb, true≢false, and_parts}
 use Rattle.std.proofs.lemmas.Str.Parse.{tells_all_ascii_digits}
 use Rattle.std.proofs.Math.Seq.{take-append_seam, drop-append_seam}
 use Rattle.std.specs.Int.{IsInRange}
 use Rattle.std.specs.List.{list_all}
 use Rattle.std.specs.Char.{is_ascii_digit}
+use mathlib.Core.Bool.{and-false}
 use Rattle.off_text.specs.Words.{is_blank, Word, words_from, to_line_feed}
 use Rattle.off_text.specs.Scans.{is_inner}
 use Rattle.off_text.specs.Grammar.{Refusal, ◌>>=◌, next, beyond_line}
@@ -29,25 +30,13 @@ pub feed : IsBreak 10
 feed = record { hash = refl; blank = refl }
 
 outer : (b : ℕ) → IsBreak b → is_inner b ≡ false
-outer b h = ap (λ t. not (eqb b 35) && not t) h.blank ∙ none (not (eqb b 35))
-  where
-    none : (t : Bool) → t && false ≡ false
-    none true = refl
-    none false = refl
-
-first : (a b : Bool) → a && b ≡ true → a ≡ true
-first true b e = refl
-first false b e = absurd (true≢false (sym e))
-
-second : (a b : Bool) → a && b ≡ true → b ≡ true
-second true b e = e
-second false b e = absurd (true≢false (sym e))
+outer b h = ap (λ t. not (eqb b 35) && not t) h.blank ∙ and-false (not (eqb b 35))
 
 run_is : (t : List ℕ) (b : ℕ) (rest : List ℕ) → list_all is_inner t ≡ true → IsBreak b → run (t ++ b ∷ rest) ≡ length t
 run_is [] b rest inner h = fails is_inner b rest (outer b h)
 run_is (c ∷ t) b rest inner h =
-    let later = run_is t b rest (second (is_inner c) (list_all is_inner t) inner) h in
-    let here : run (c ∷ (t ++ b ∷ rest)) ≡ 1 + run (t ++ b ∷ rest) = passes is_inner c (t ++ b ∷ rest) (first (is_inner c) (list_all is_inner t) inner) in
+    let later = run_is t b rest (and_parts (is_inner c) (list_all is_inner t) inner).1 h in
+    let here : run (c ∷ (t ++ b ∷ rest)) ≡ 1 + run (t ++ b ∷ rest) = passes is_inner c (t ++ b ∷ rest) (and_parts (is_inner c) (list_all is_inner t) inner).0 in
     omega (arith, here, later)
 
 -- the first word, and the words behind its blank
@@ -55,8 +44,8 @@ pub token_step : (p b : ℕ) (t rest : List ℕ) → IsToken t → IsBreak b
     → words_from false p (t ++ b ∷ rest) ≡ record { bytes = t; place = p; line_end = p + to_line_feed (t ++ b ∷ rest) } ∷ words_from false (p + length t + 1) rest
 token_step p b [] rest h k = absurd (omega (arith, h.some))
 token_step p b (c ∷ t) rest h k =
-    let size = run_is t b rest (second (is_inner c) (list_all is_inner t) h.inner) k in
-    word_first p c (t ++ b ∷ rest) (first (is_inner c) (list_all is_inner t) h.inner)
+    let size = run_is t b rest (and_parts (is_inner c) (list_all is_inner t) h.inner).1 k in
+    word_first p c (t ++ b ∷ rest) (and_parts (is_inner c) (list_all is_inner t) h.inner).0
     ∙ ap (λ (n : ℕ). record { bytes = c ∷ take n (t ++ b ∷ rest); place = p; line_end = p + to_line_feed (c ∷ (t ++ b ∷ rest)) } ∷ words_from false (p + 1 + n) (drop n (t ++ b ∷ rest))) size
     ∙ ap₂ (λ (bs cs : List ℕ). record { bytes = c ∷ bs; place = p; line_end = p + to_line_feed (c ∷ (t ++ b ∷ rest)) } ∷ words_from false (p + 1 + length t) cs) (take-append_seam t (b ∷ rest)) (drop-append_seam t (b ∷ rest))
     ∙ ap (λ ws. record { bytes = c ∷ t; place = p; line_end = p + to_line_feed (c ∷ (t ++ b ∷ rest)) } ∷ ws)
@@ -101,8 +90,8 @@ digit_not_above c n is high = ne_eqb c n (λ e. omega (arith, (in_range c is).1,
 pub digits_inner : (ds : List ℕ) → list_all is_ascii_digit ds ≡ true → list_all is_inner ds ≡ true
 digits_inner [] h = refl
 digits_inner (d ∷ ds) h =
-    ap (λ t. t && list_all is_inner ds) (digit_inner d (first (is_ascii_digit d) (list_all is_ascii_digit ds) h))
-    ∙ digits_inner ds (second (is_ascii_digit d) (list_all is_ascii_digit ds) h)
+    ap (λ t. t && list_all is_inner ds) (digit_inner d (and_parts (is_ascii_digit d) (list_all is_ascii_digit ds) h).0)
+    ∙ digits_inner ds (and_parts (is_ascii_digit d) (list_all is_ascii_digit ds) h).1
 
 pub first_digit : (d : ℕ) (ds : List ℕ) → list_all is_ascii_digit (d ∷ ds) ≡ true → is_ascii_digit d ≡ true
-first_digit d ds h = first (is_ascii_digit d) (list_all is_ascii_digit ds) h
+first_digit d ds h = (and_parts (is_ascii_digit d) (list_all is_ascii_digit ds) h).0

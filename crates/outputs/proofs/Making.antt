@@ -1,11 +1,8 @@
 -- The texts that are made of an accepted input.
-use Rattle.std.proofs.Common.{◌≡◌, ◌≢◌, Option, Some, None, unwrap_or, IfSome, ℕ, ◌<◌, ◌≤◌, ◌^◌, ℤ, unsigned_abs, SFits, w32, lit≤, List, [], ◌∷◌, ◌++◌, length, map, All, Bool, refl, sym, ap, subst, ◌∙◌, append_assoc, arith}
-use Rattle.std.proofs.Math.Nat.{pow-le-pow_right}
-use Rattle.std.proofs.lemmas.Int.{fits_signed_from_abs}
+use Rattle.std.proofs.Common.{◌≡◌, ◌≢◌, Option, Some, None, unwrap_or, IfSome, ℕ, ◌<◌, ◌≤◌, ℤ, List, [], ◌∷◌, ◌++◌, length, map, All, Bool, refl, sym, ap, subst, ◌∙◌, append_assoc, arith}
 use Rattle.std.specs.List.{AllByRecursion as Each}
 use Rattle.std.proofs.lemmas.List.Elements.{All-cons, All-head, All-tail, All-from_recursion, recursion_from_All}
 use Rattle.std.proofs.lemmas.List.Kept.{AllPairs-cons}
-use Rattle.grid.specs.Limits.{IsSide}
 use Rattle.std.proofs.lemmas.List.{length-map, map-append}
 use Rattle.grid.specs.declared.shapes.Tet.{Tet}
 use Rattle.grid.specs.Meshes.{Mesh, IsTriple, IsWellFormed, IsWithinLimits}
@@ -132,13 +129,3 @@ digits-few None h = omega arith
 pub file-digits : (asked : Asked) (soup : Soup) (made : Meshed) (regions : List Bool) (file : MshMesh) → IsAsked asked → file ≡ file_of asked soup made regions → file.digits ≤ 5
 unfolding msh_of
 file-digits asked soup made regions file is_asked is = subst (λ (f : MshMesh). f.digits ≤ 5) (sym is) (digits-few asked.digits is_asked.digits)
-
-pub asked-digits : (asked : Asked) → IsAsked asked → unwrap_or asked.digits 0 ≤ 5
-asked-digits asked is_asked = digits-few asked.digits is_asked.digits
-
--- the side of a box fits its type
-pub side-SFits : (side : ℤ) → IsSide side → SFits w32 side
-side-SFits side s =
-    let most : 2 ^ s.power ≤ 2 ^ 18 = pow-le-pow_right (lit≤ tt) s.power_most in
-    let below : 2 ^ s.power < 2 ^ 31 = omega (arith, most) in
-    fits_signed_from_abs w32 side (subst (λ z. unsigned_abs z < 2 ^ 31) (sym s.is) below)

@@ -77,7 +77,7 @@ abbrev pub IsCutOff : Texts → FolderState → FolderState → SinkState → Si
 IsCutOff texts old new before after = IsCutAtFile texts old new before after ⊎ IsCutAtOutput texts old new before after
 
 -- everything was written
-pub record IsWritten (texts : Texts) (old new : FolderState) (before after : SinkState) : Type 0 where
+pub record AreWritten (texts : Texts) (old new : FolderState) (before after : SinkState) : Type 0 where
   pub files : old.told ≡ true → AreWhole texts.files old.files new.files
   pub line : Appended before after texts.line
 
@@ -86,5 +86,5 @@ pub record Writes (texts : Texts) (old new : FolderState) (before after : SinkSt
   pub folder : WriteCall old new
   pub sink : SinkCall before after
   pub known : (status ≡ 0) ⊎ (status ≡ 5)
-  pub done : status ≡ 0 → IsWritten texts old new before after
+  pub done : status ≡ 0 → AreWritten texts old new before after
   pub cut : status ≡ 5 → IsCutOff texts old new before after

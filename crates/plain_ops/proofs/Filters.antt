@@ -1,5 +1,5 @@
 -- Lists of the code, filtered and counted by their corners.
-use Rattle.std.proofs.Common.{◌≡◌, ℕ, Bool, List, [], ◌∷◌, ◌++◌, map, refl, ap, ◌∙◌, inl, inr}
+use Rattle.std.proofs.Common.{◌≡◌, ℕ, Bool, List, [], ◌∷◌, map, refl, ap, ◌∙◌, inl, inr}
 use Rattle.std.specs.List.{filter}
 use Rattle.std.proofs.lemmas.Bool.{cases_Bool}
 
@@ -13,7 +13,3 @@ module _ {X : Type 0} (f : X → List ℕ) (p : List ℕ → Bool) where
 
   pub filtered : (xs ys zs : List X) → ys ≡ xs → zs ≡ filter (λ x. p (f x)) ys → map f zs ≡ filter p (map f xs)
   filtered xs ys zs e h = ap (map f) (h ∙ ap (filter (λ x. p (f x))) e) ∙ filter-map xs
-
-pub map-both : {X Y : Type 0} (f : X → Y) (xs ys : List X) → map f (xs ++ ys) ≡ map f xs ++ map f ys
-map-both f [] ys = refl
-map-both f (x ∷ xs) ys = ap (λ zs. f x ∷ zs) (map-both f xs ys)

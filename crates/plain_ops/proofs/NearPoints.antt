@@ -2,9 +2,10 @@
 use Rattle.std.proofs.Common.{◌≡◌, ◌≢◌, ℕ, zero, suc, ◌+◌, ◌<◌, ◌≤◌, Bool, true, false, ◌&&◌, not, cond, List, [], ◌∷◌, ◌++◌, length, refl, append_assoc, sym, ◌∙◌, ap, inl, inr, arith}
 use Rattle.std.specs.Prelude.{◌-◌, nat_eq, nat_lt}
 use Rattle.std.specs.List.{filter, range_with_len}
-use Rattle.std.proofs.lemmas.Bool.{cases_Bool, cases_eq, and_from, eqb-true, ltb-false, true≢false}
+use Rattle.std.proofs.lemmas.Bool.{cases_Bool, cases_eq, and_from, eqb-true, true≢false, lt-ltb}
 use Rattle.std.proofs.lemmas.List.{append-nil}
 use Rattle.std.proofs.lemmas.List.FromFn.{length-range_with_len}
+use Rattle.std.proofs.lemmas.List.Sums.{length-filter, count_by-le-length}
 use Rattle.grid.specs.Meshes.{Mesh, IsWellFormed}
 use Rattle.grid.specs.Simplices.{has}
 use Rattle.mesh_types.specs.Results.{neighbours}
@@ -19,10 +20,6 @@ use Rattle.mesh_types.proofs.Splits.{cornered_tets}
 use Rattle.plain_ops.specs.Targets.{is_neighbour}
 use Rattle.plain_ops.proofs.SingleFaces.{counted-at}
 
-filter-shorter : (p : ℕ → Bool) (xs : List ℕ) → length (filter p xs) ≤ length xs
-filter-shorter p [] = omega arith
-filter-shorter p (x ∷ xs) = let rest = filter-shorter p xs in elim (cases_Bool (p x)) [ inl e ↦ rw e (omega (arith, rest)) | inr e ↦ rw e (omega (arith, rest)) ]
-
 -- a number of the range that passes
 some-in_range : (p : ℕ → Bool) (k n w : ℕ) → k ≤ w → w < k + n → p w ≡ true → 0 < length (filter p (range_with_len k n))
 some-in_range p k zero w l h t = absurd (omega arith)
@@ -33,9 +30,6 @@ some-in_range p k (suc n) w l h t = elim (cases_Bool (p k)) [
     | inr i ↦ some-in_range p (k + 1) n w (omega (arith, i)) (omega arith) t
   ])
 ]
-
-above_zero : (n : ℕ) → 0 < n → nat_lt 0 n ≡ true
-above_zero n l = elim (cases_Bool (nat_lt 0 n)) [ inl e ↦ e | inr e ↦ let k = ltb-false 0 n e in absurd (omega arith) ]
 
 differ : (a b : ℕ) → a ≢ b → not (nat_eq a b) ≡ true
 differ a b n = elim (cases_Bool (nat_eq a b)) [ inl e ↦ absurd (n (eqb-true a b e)) | inr e ↦ ap not e ]
@@ -61,13 +55,15 @@ module _ (p : ℕ → Bool) (n w : ℕ) (old : List ℕ) where
 
 module _ (m : Mesh) (u : ℕ) where
   pub neighbours-few : length (neighbours m u) ≤ length m.points
-  neighbours-few = let a = filter-shorter (is_neighbour m.tets u) (range_with_len 0 (length m.points)) in let b = length-range_with_len 0 (length m.points) in omega arith
+  neighbours-few =
+      let points = range_with_len 0 (length m.points) in
+      omega (arith, length-filter (is_neighbour m.tets u) points, count_by-le-length (is_neighbour m.tets u) points, length-range_with_len 0 (length m.points))
 
   some-at : (x : List ℕ) (c : ℕ) → Among m.tets x → has x u ≡ true → has x c ≡ true → c ≢ u → c < length m.points → 0 < length (neighbours m u)
   some-at x c i p q n l =
       let count = counted-at (λ x. has x u && has x c) m.tets x i (and_from (has x u) (has x c) p q) in
       some-in_range (is_neighbour m.tets u) 0 (length m.points) c (omega arith) (omega arith)
-      (and_from (not (nat_eq c u)) (nat_lt 0 (tets_at_edge m.tets u c)) (differ c u n) (above_zero (tets_at_edge m.tets u c) count))
+      (and_from (not (nat_eq c u)) (nat_lt 0 (tets_at_edge m.tets u c)) (differ c u n) (lt-ltb 0 (tets_at_edge m.tets u c) count))
 
   pub neighbours-some : IsWellFormed m → 0 < tets_at_point m.tets u → 0 < length (neighbours m u)
   neighbours-some w h =

@@ -1,25 +1,12 @@
 -- A verdict from tests that are made in their order.
-use Rattle.std.proofs.Common.{◌≡◌, ◌⊎◌, ℕ, suc, ◌<◌, [], ◌∷◌, get_or, sym, ◌∙◌, ap, subst, inl, inr, refl, arith}
+use Rattle.std.proofs.Common.{◌≡◌, ◌⊎◌, ℕ, suc, ◌<◌, sym, ◌∙◌, ap, subst, inl, inr, arith}
 use Rattle.std.proofs.lemmas.Bool.{cases_eq}
 use Rattle.grid.specs.Meshes.{Mesh}
 use Rattle.mesh_types.specs.declared.tries.Try.{Try}
 use Rattle.mesh_types.specs.declared.tries.Why.{Why}
 use Rattle.mesh_types.specs.declared.tries.Why.TheVariants as why
 use Rattle.mesh_types.specs.Verdicts.{Setting, Passes, place_in_order}
-
--- the reason at a place
-abbrev why_at : ℕ → Why
-why_at n = get_or (why.Box ∷ why.Rim ∷ why.Tracked ∷ why.Full ∷ why.Inverted ∷ why.Doubled ∷ why.Worse ∷ []) n why.Uncovered
-
-at_place : (w : Why) → why_at (place_in_order w) ≡ w
-at_place why.Box = refl
-at_place why.Rim = refl
-at_place why.Tracked = refl
-at_place why.Full = refl
-at_place why.Inverted = refl
-at_place why.Doubled = refl
-at_place why.Worse = refl
-at_place why.Uncovered = refl
+use Rattle.mesh_types.proofs.OneVerdict.{why_at, at_place}
 
 module _ (s : Setting) (m : Mesh) (t : Try) where
   -- the tests before a place are passed

@@ -2,10 +2,9 @@
 use Rattle.std.proofs.Common.{◌≡◌, ◌↔◌, ℕ, ◌<◌, ◌≤◌, Bool, true, false, ◌&&◌, List, [], ◌∷◌, ◌++◌, ◌+◌, length, get_or, drop, add-one, IsTrue, refl, sym, ◌∙◌, ap, subst, inl, inr, arith}
 use Rattle.std.specs.Prelude.{nat_lt, count_by}
 use Rattle.std.specs.List.{AllByRecursion as Each, list_all}
-use Rattle.std.proofs.lemmas.Bool.{cases_Bool, and_from, le-ltb, ltb-false}
+use Rattle.std.proofs.lemmas.Bool.{cases_Bool, and_from, le-ltb, lt-ltb}
 use Rattle.std.proofs.Math.Seq.{drop-cons}
 use Rattle.grid.proofs.Members.{count_by-cons_yes, count_by-cons_no}
-use Rattle.grid.proofs.Rotations.{equal3-refl}
 use Rattle.grid.specs.declared.shapes.Face.{Face}
 use Rattle.grid.specs.Views.{triples_of}
 use Rattle.grid.specs.Simplices.{faces, all_faces, is_rotation, count}
@@ -14,6 +13,7 @@ use Rattle.mesh_types.specs.Verdicts.{IsSingle}
 use Rattle.mesh_types.proofs.Among.{Among, among-all}
 use Rattle.mesh_types.proofs.Each.{Each-append, Each-both, Each-weaker}
 use Rattle.mesh_types.proofs.Rotated.{single_test}
+use Rattle.mesh_types.proofs.Same.{rotation_still}
 use Rattle.plain_ops.specs.Afters.{has_single_faces}
 
 -- ---- joined lists
@@ -64,23 +64,20 @@ all-from_each : (p : List ℕ → Bool) (xs : List (List ℕ)) → Each (λ x. p
 all-from_each p [] h = refl
 all-from_each p (x ∷ xs) h = and_from (p x) (list_all p xs) h.0 (all-from_each p xs h.1)
 
-below_two : (n : ℕ) → n ≤ 1 → nat_lt n 2 ≡ true
-below_two n h = elim (cases_Bool (nat_lt n 2)) [ inl e ↦ e | inr e ↦ let l = ltb-false n 2 e in absurd (omega arith) ]
-
 single-from : (r : Result) → IsSingle r → list_all (λ g. nat_lt (count g r.mesh.tets) 2) (all_faces r.fresh) ≡ true
 single-from r single =
     all-from_each (λ g. nat_lt (count g r.mesh.tets) 2) (all_faces r.fresh)
     (Each-weaker (λ g. Among (all_faces r.fresh) g × IsThree g) (λ g. nat_lt (count g r.mesh.tets) 2 ≡ true) once (all_faces r.fresh)
     (Each-both (Among (all_faces r.fresh)) IsThree (all_faces r.fresh) (among-all (all_faces r.fresh)) (all-three r.fresh)))
   where
-    itself : (a b c : ℕ) → is_rotation (a ∷ b ∷ c ∷ []) (a ∷ b ∷ c ∷ []) ≡ true
-    itself a b c = rw (equal3-refl a b c) refl
+    less : (n : ℕ) → n ≤ 1 → n < 2
+    less n h = omega arith
 
     once : (g : List ℕ) → Among (all_faces r.fresh) g × IsThree g → nat_lt (count g r.mesh.tets) 2 ≡ true
     once g h =
         let t = h.1 in
-        let some : 0 < count g r.fresh = counted-at (is_rotation g) (all_faces r.fresh) g h.0 (subst (λ f. is_rotation f f ≡ true) (sym t.is) (itself t.a t.b t.c)) in
-        below_two (count g r.mesh.tets) (subst (λ f. count f r.mesh.tets ≤ 1) (sym t.is) (single t.a t.b t.c (subst (λ f. 0 < count f r.fresh) t.is some)))
+        let some : 0 < count g r.fresh = counted-at (is_rotation g) (all_faces r.fresh) g h.0 (subst (λ f. is_rotation f f ≡ true) (sym t.is) (rotation_still t.a t.b t.c)) in
+        lt-ltb (count g r.mesh.tets) 2 (less (count g r.mesh.tets) (subst (λ f. count f r.mesh.tets ≤ 1) (sym t.is) (single t.a t.b t.c (subst (λ f. 0 < count f r.fresh) t.is some))))
 
 pub single_is : (r : Result) (b : Bool) → b ≡ list_all (has_single_faces r.mesh.tets) r.fresh → IsTrue b ↔ IsSingle r
 single_is r b e =
@@ -105,7 +102,7 @@ module _ (tets : List (List ℕ)) (fs : List Face) (i : ℕ) (n : ℕ) (whole : 
 
   pub single-step : i < length fs → n ≡ count (get_or fs i none).0 tets → n ≤ 1 → list_all once (triples_of (drop i fs)) ≡ whole → rest ≡ whole
   single-step l e h k =
-      let yes : once (get_or fs i none).0 ≡ true = below_two (count (get_or fs i none).0 tets) (omega (arith, e)) in
+      let yes : once (get_or fs i none).0 ≡ true = lt-ltb (count (get_or fs i none).0 tets) 2 (omega (arith, e)) in
       sym (parted l ∙ ap (λ b. b && rest) yes) ∙ k
 
   pub single-stop : i < length fs → n ≡ count (get_or fs i none).0 tets → 1 < n → list_all once (triples_of (drop i fs)) ≡ whole → false ≡ whole

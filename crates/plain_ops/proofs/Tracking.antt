@@ -1,5 +1,5 @@
 -- Faces in lists of faces.
-use Rattle.std.proofs.Common.{◌≡◌, ℕ, zero, suc, Bool, true, ◌||◌, List, [], ◌∷◌, ◌++◌, refl, sym, ap, ◌∙◌, inl, inr, arith}
+use Rattle.std.proofs.Common.{◌≡◌, ℕ, zero, suc, Bool, true, ◌||◌, List, [], ◌∷◌, sym, ap, ◌∙◌, inl, inr, arith}
 use Rattle.std.specs.List.{Contains, list_any}
 use Rattle.std.specs.Str.{bytes_eq}
 use Rattle.std.proofs.lemmas.Bool.{cases_Bool, or_left, or_right, true≢false}
@@ -18,7 +18,3 @@ pub among-from_Contains : (fs : List Face) (x : List ℕ) → Contains (triples_
 among-from_Contains [] x (k, lt, e) = absurd (omega (arith, lt))
 among-from_Contains (f ∷ fs) x (zero, lt, e) = or_left (bytes_eq f.0 x) (list_any (λ (f : Face). bytes_eq f.0 x) fs) (equal_to f.0 x e)
 among-from_Contains (f ∷ fs) x (suc k, lt, e) = or_right (bytes_eq f.0 x) (list_any (λ (f : Face). bytes_eq f.0 x) fs) (among-from_Contains fs x (k, omega (arith, lt), e))
-
-pub triples-append : (fs gs : List Face) → triples_of (fs ++ gs) ≡ triples_of fs ++ triples_of gs
-triples-append [] gs = refl
-triples-append (f ∷ fs) gs = ap (λ ts. f.0 ∷ ts) (triples-append fs gs)

@@ -1,1 +1,1 @@
-pub mod Saying
+mod Saying

@@ -5,7 +5,7 @@ use Rattle.mesh_types.specs.declared.cert.Cert.{Cert, out-Cert}
 use Rattle.mesh_types.specs.declared.cert.Cert.TheVariants as certs
 use Rattle.mesh_types.specs.declared.cert.Cert.TheOpen as open_cert
 use Rattle.lines.specs.Fields.{space, word}
-use Rattle.lines.proofs.CanSay.{four_items}
+use Rattle.lines.proofs.ForCallers.{four_items}
 use Rattle.report_text.specs.Rules.{bracket}
 use Rattle.report_text.specs.Text.{parts_text, top_text, cert_text}
 use Rattle.report_text.proofs.SaysText.{out-Leaf, out-Split}

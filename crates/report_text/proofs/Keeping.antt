@@ -6,7 +6,7 @@ use Rattle.std.proofs.lemmas.List.Elements.{All-head, All-tail}
 use Rattle.grid.specs.Simplices.{Rises}
 use Rattle.lines.specs.Forms.{repeat}
 use Rattle.lines.specs.Fields.{Between, Within}
-use Rattle.lines.proofs.CanSay.{CanSay, says_done, says_field, says_then, says_fixed, says_all, is_text, three_items}
+use Rattle.lines.proofs.ForCallers.{CanSay, says_done, says_field, says_then, says_fixed, says_all, is_text, three_items}
 use Rattle.mesh_types.specs.declared.outcome.Outcome.{Outcome}
 use Rattle.mesh_types.specs.declared.outcome.Again.{Again}
 use Rattle.report_text.specs.declared.kinds.SizeKind.TheVariants as size_kinds

@@ -8,7 +8,7 @@ use Rattle.grid.specs.Boxes.{IsUpTo, IsInBox}
 use Rattle.grid.specs.Determinants.{origin}
 use Rattle.grid.specs.Simplices.{Rises}
 use Rattle.lines.specs.Fields.{space, Between, Within}
-use Rattle.lines.proofs.CanSay.{CanSay, says_done, says_field, says_then, says_fixed, says_all, three_items, four_items}
+use Rattle.lines.proofs.ForCallers.{CanSay, says_done, says_field, says_then, says_fixed, says_all, three_items, four_items}
 use Rattle.mesh_types.specs.declared.cert.Cert.{Cert, out-Cert, roll-Cert, roll-out-Cert}
 use Rattle.mesh_types.specs.declared.cert.Cert.TheVariants as certs
 use Rattle.mesh_types.specs.declared.cert.Cert.TheOpen.{Cert-F}

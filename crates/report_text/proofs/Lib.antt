@@ -1,10 +1,11 @@
-pub mod OneReading
-pub mod SaysText
-pub mod CertText
-pub mod OneOf
-pub mod Lists
-pub mod TopOfCert
-pub mod Head
-pub mod ReadsReport
+mod OneReading
+mod SaysText
+mod CertText
+mod OneOf
+mod Lists
+mod TopOfCert
+mod Head
+mod ReadsReport
 mod KeepingParts
-pub mod Keeping
+mod Keeping
+pub mod ForCallers

@@ -5,8 +5,7 @@ use Rattle.std.specs.List.{prefix_len}
 use Rattle.std.specs.Char.{is_ascii_digit}
 use Rattle.lines.specs.Forms.{Form, done, Reads, IsClear}
 use Rattle.lines.specs.Fields.{space, feed, word, number, Between}
-use Rattle.lines.proofs.Numerals.{none_empty}
-use Rattle.lines.proofs.Clear.{word_clear, coordinate_clear, fixed_clear, apart, apart_differs, repeat_clear}
+use Rattle.lines.proofs.ForCallers.{none_empty, word_clear, coordinate_clear, fixed_clear, apart, apart_differs, repeat_clear}
 use Rattle.mesh_types.specs.declared.cert.Cert.{Cert}
 use Rattle.mesh_types.specs.declared.cert.Cert.TheVariants as certs
 use Rattle.report_text.specs.declared.report.Covering.{Covering}
@@ -206,7 +205,7 @@ more_outcomes_clear : (side : ℕ) (shift : List ℤ) (n : ℕ) (before : List O
 unfolding IsClear more_outcomes
 more_outcomes_clear side shift n before room = (fixed_clear (codes "t "), λ u b r h. (numbers_clear (length before) (length before) space refl (omega (arith, room)), λ i b1 r1 h1. (outcome_clear side shift, λ o b2 r2 h2. tt)))
 
-outcomes_grow : (side : ℕ) (shift : List ℤ) (n : ℕ) (before after : List Outcome) (bytes rest : List ℕ) → length before + suc n ≤ 2 ^ 20 → Reads (more_outcomes side shift before) bytes after rest → length after + n ≤ 2 ^ 20
+pub outcomes_grow : (side : ℕ) (shift : List ℤ) (n : ℕ) (before after : List Outcome) (bytes rest : List ℕ) → length before + suc n ≤ 2 ^ 20 → Reads (more_outcomes side shift before) bytes after rest → length after + n ≤ 2 ^ 20
 unfolding Reads more_outcomes
 outcomes_grow side shift n before after bytes rest room h = omega (arith, room, ap length h.3.3.3.0, length-append before (h.3.3.0 ∷ []))
 

@@ -3,7 +3,7 @@ use Rattle.std.proofs.Common.{◌≡◌, ℕ, true, List, [], ◌++◌, length, 
 use Rattle.std.specs.Prelude.{Result, Ok, Err, IsErrOf}
 use Rattle.std.proofs.lemmas.List.{append-nil}
 use Rattle.lines.specs.Forms.{Reads}
-use Rattle.lines.proofs.Laws.{nothing_left, text_once, text_or_bad, bad_line_once}
+use Rattle.lines.proofs.ForCallers.{nothing_left, text_once, text_or_bad, bad_line_once}
 use Rattle.report_text.specs.declared.issue.ReportIssue.{ReportIssue}
 use Rattle.report_text.specs.declared.issue.ReportIssue.TheVariants as issues
 use Rattle.report_text.specs.declared.report.Report.{Report}

@@ -28,7 +28,7 @@ use Rattle.report_text.specs.declared.kinds.PartKind.{PartKind}
 use Rattle.report_text.specs.declared.kinds.PartKind.TheVariants as part_kinds
 use Rattle.report_text.specs.Rules.{named, grid_number, vertex, other_vertex, attempt, size_kind_text, size_behind, part_kind_text, part_behind, CertificateAllowed, size, shift_line, point, three_points, four_points, outcome_text, outcome_behind, outcome, more_outcomes, more_again, try_text, try_behind, more_tries, verdict_text, end_text, journal, bracket, certificate_text, certificate_behind, certificate, more_faces, second_part, report_rules}
 use Rattle.report_text.specs.Text.{named_line, point_text, points_text, words_of, triangle_line, again_line, vertex_text, attempt_text, try_line, journal_text, parts_text, top_text, cert_text, covering_line, size_text, shift_text, second_text, report_text}
-use Rattle.lines.proofs.Chains.{joined_said, behind, OneMore, repeat_text, no_places}
+use Rattle.lines.proofs.ForCallers.{joined_said, behind, OneMore, repeat_text, no_places}
 
 named_says : (name : List ℕ) (Allowed : ℕ → Type 0) (bytes rest : List ℕ) (n : ℕ) → Reads (named name Allowed) bytes n rest → bytes ≡ named_line name n ++ rest
 unfolding Reads

@@ -7,7 +7,7 @@ use Rattle.lines.specs.declared.stop.Stop.TheVariants as stops
 use Rattle.lines.specs.Forms.{field, Reads, Breaks, IsBad}
 use Rattle.lines.specs.Fields.{number, Between}
 use Rattle.lines.specs.Gives.{Fails}
-use Rattle.lines.proofs.Laws.{Continues, starts, goes_on, ends, fails, field_breaks, field_reads}
+use Rattle.lines.proofs.ForCallers.{Continues, starts, goes_on, ends, fails, field_breaks, field_reads}
 use Rattle.mesh_types.specs.declared.cert.Cert.TheVariants as certs
 use Rattle.report_text.specs.Rules.{certificate, certificate_behind, certificate_text, CertificateAllowed}
 use Rattle.report_text.proofs.OneReading.{no_bracket}

@@ -1,5 +1,6 @@
 -- The placed vertices lie in the box.
-use Rattle.std.proofs.Common.{◌≡◌, ℕ, ◌+◌, ◌-◌, ◌*◌, ◌/◌, ◌^◌, ◌<◌, ◌≤◌, max, List, [], ◌∷◌, length, ℤ, pos, ◌-ℤ◌, ◌≤ℤ◌, refl, sym, ap, ◌∙◌, subst, arith, unsigned_abs, slice_index_or, All}
+use Rattle.std.proofs.Common.{◌≡◌, ℕ, ◌+◌, ◌-◌, ◌*◌, ◌/◌, ◌^◌, ◌<◌, ◌≤◌, max, List, [], ◌∷◌, length, ℤ, pos, ◌-ℤ◌, ◌≤ℤ◌, refl, sym, ap, ◌∙◌, subst, arith, unsigned_abs, slice_index_or, All, lit≤}
+use Rattle.std.proofs.Math.Nat.{pow-le-pow_right}
 use Rattle.std.proofs.lemmas.Int.{ints}
 use Rattle.std.proofs.lemmas.List.{get_or-map, length-map}
 use Rattle.std.proofs.lemmas.List.Elements.{All-from_recursion}
@@ -10,7 +11,7 @@ use Rattle.grid.specs.Limits.{IsSide, IsCells}
 use Rattle.soup.specs.declared.raw.Raw.{Raw}
 use Rattle.soup.specs.Limits.{IsVertex, IsFaceBelow, largest_coordinate}
 use Rattle.soup.specs.Placement.{extent, room, side, placed_in, IsLeastSide, IsInItsBox, along, least, spread, start_along, start, placed_point, placed_triangle, power_from, IsInside, IsPointInside, IsTriInside}
-use Rattle.soup.proofs.Powers.{power_from_is, least_power, least_of_powers, at_most_power}
+use Rattle.soup.proofs.Powers.{power_from_is, least_power, least_of_powers}
 use Rattle.soup.proofs.Ranges.{least_below, greatest_above, least-IsWithin, AreAlong, along_x, along_y, along_z}
 
 -- ---- the side
@@ -27,7 +28,7 @@ good_side n few =
     subst (IsGoodSide n) (sym is) (record {
       is_side = record { power = found.0; power_least = found.1.low; power_most = found.1.high; is = refl };
       enough = found.1.enough;
-      most = at_most_power found.0 18 found.1.high;
+      most = pow-le-pow_right (lit≤ tt) found.1.high;
       least = λ k low enough. least_of_powers 14 4 n found.0 k found.1 low enough;
     })
 
@@ -116,7 +117,7 @@ pub record IsSideOf (raw : Raw) (e cells l : ℕ) : Type 0 where
 
 pub side_is : (raw : Raw) (e cells wide needed l : ℕ) → IsCells cells → wide ≡ extent raw → needed ≡ max (wide + 2 * e + 4) (4 * cells) → l ≡ power_from 14 4 needed → wide + 2 * e + 4 ≤ 2 ^ 18 → IsSideOf raw e cells l
 side_is raw e cells wide needed l h wide_is needed_is l_is few =
-    let most : 2 ^ h.power ≤ 2 ^ 5 = at_most_power h.power 5 h.power_most in
+    let most : 2 ^ h.power ≤ 2 ^ 5 = pow-le-pow_right (lit≤ tt) h.power_most in
     let is : l ≡ side raw e cells = l_is ∙ ap (power_from 14 4) (needed_is ∙ ap (λ n. max (n + 2 * e + 4) (4 * cells)) wide_is) in
     let all : max (room raw e) (4 * cells) ≤ 2 ^ 18 = omega (arith, h.is) in
     let good = good_side (max (room raw e) (4 * cells)) all in

@@ -1,6 +1,7 @@
-pub mod Ranges
-pub mod Powers
-pub mod Boxed
-pub mod Measures
-pub mod Places
-pub mod Heights
+mod Ranges
+mod Powers
+mod Boxed
+mod Measures
+mod Places
+mod Heights
+pub mod ForCallers

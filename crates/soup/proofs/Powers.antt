@@ -1,5 +1,5 @@
 -- The least power of two that is at least a number.
-use Rattle.std.proofs.Common.{◌≡◌, ℕ, ◌+◌, ◌*◌, ◌/◌, ◌^◌, ◌<◌, ◌≤◌, zero, suc, max, sym, ap, ◌∙◌, subst, arith, cond, inl, inr, lit<}
+use Rattle.std.proofs.Common.{◌≡◌, ℕ, ◌+◌, ◌*◌, ◌/◌, ◌^◌, ◌<◌, ◌≤◌, zero, suc, max, sym, ap, ◌∙◌, subst, arith, cond, inl, inr, lit≤}
 use Rattle.std.proofs.Math.Nat.{pow-le-pow_right, pow-suc}
 use Rattle.std.proofs.lemmas.Bool.{cases_lt, le-leb, lt-leb}
 use Rattle.std.proofs.lemmas.Nat.{pow_below}
@@ -12,11 +12,8 @@ pub record IsLeastPower (more k n j : ℕ) : Type 0 where
   pub enough : n ≤ 2 ^ j
   pub none : (i : ℕ) → k ≤ i → i < j → 2 ^ i < n
 
-pub at_most_power : (i j : ℕ) → i ≤ j → 2 ^ i ≤ 2 ^ j
-at_most_power i j le = pow-le-pow_right (lit< tt) le
-
 double_power : (i j : ℕ) → i < j → 2 * 2 ^ i ≤ 2 ^ j
-double_power i j lt = let h : 2 ^ suc i ≤ 2 ^ j = at_most_power (suc i) j (omega arith) in omega (arith, h, pow-suc 2 i)
+double_power i j lt = let h : 2 ^ suc i ≤ 2 ^ j = pow-le-pow_right (lit≤ tt) (omega arith) in omega (arith, h, pow-suc 2 i)
 
 pub power_from_is : (more k n j : ℕ) → IsLeastPower more k n j → power_from more k n ≡ 2 ^ j
 unfolding power_from
@@ -49,7 +46,7 @@ least_power (suc more) k n le = elim (cases_lt (2 ^ k) n) [
 pub least_of_powers : (more k n j i : ℕ) → IsLeastPower more k n j → k ≤ i → n ≤ 2 ^ i → 2 ^ j ≤ 2 ^ i
 least_of_powers more k n j i h low enough = elim (cases_lt i j) [
   | inl lt ↦ let less : 2 ^ i < n = h.none i low lt in absurd (omega arith)
-  | inr le ↦ at_most_power j i le
+  | inr le ↦ pow-le-pow_right (lit≤ tt) le
 ]
 
 -- what the next power of two of the greater of n and 16 is
@@ -60,6 +57,6 @@ next_power n r j is low_r high_r few = record {
   enough = omega arith;
   none = λ i le lt.
       let twice : 2 * 2 ^ i ≤ 2 ^ j = double_power i j lt in
-      let least : 16 ≤ 2 ^ i = at_most_power 4 i le in
+      let least : 16 ≤ 2 ^ i = pow-le-pow_right (lit≤ tt) le in
       omega arith;
 }

@@ -1,15 +1,12 @@
 -- Splitting in turn does not see how the corners are named.
 use Rattle.std.proofs.Common.{◌≡◌, ℕ, Bool, true, false, cond, ◌&&◌, ◌||◌, nat_eq, List, [], ◌∷◌, ◌++◌, map, refl, sym, ap, ap₂, ◌∙◌}
 use Rattle.std.specs.List.{flat_map, AllByRecursion as Each}
+use Rattle.std.proofs.lemmas.List.{map-append}
 use Rattle.grid.specs.Simplices.{has, replaced, sub}
 use Rattle.cut_tables.specs.Cutting.{RankEdge, split_in_turn}
 use Rattle.table_pieces.specs.Labels.{renamed}
 
 -- ---- lists of lists
-pub map-append : {X Y : Type 0} (f : X → Y) (xs ys : List X) → map f (xs ++ ys) ≡ map f xs ++ map f ys
-map-append f [] ys = refl
-map-append f (x ∷ xs) ys = ap (λ zs. f x ∷ zs) (map-append f xs ys)
-
 -- a change of the members goes through a step that keeps it at those members
 pub through_each : {X : Type 0} (P : X → Type 0) (h : X → X) (g g' : X → List X) → ((x : X) → P x → g' (h x) ≡ map h (g x)) → (xs : List X) → Each P xs → flat_map g' (map h xs) ≡ map h (flat_map g xs)
 through_each P h g g' step [] e = refl

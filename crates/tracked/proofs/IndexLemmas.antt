@@ -10,7 +10,7 @@ use Rattle.grid.specs.declared.shapes.Face.{Face}
 use Rattle.grid.specs.Meshes.{IsTriple}
 use Rattle.grid.specs.Simplices.{has, AreDifferent, Rises}
 use Rattle.tracked.specs.Keys.{Keys, same_face, state_of, put}
-use Rattle.tracked.specs.Places.{IsChanged, IsSame, IsIndexed, places_at, places_of, and_last, but_last}
+use Rattle.tracked.specs.Places.{IsChanged, IsIndexed, places_at, places_of, and_last, but_last}
 use Rattle.tracked.proofs.KeyLemmas.{put-new}
 use Rattle.tracked.proofs.KeyFacts.{All-put, All-key}
 use Rattle.tracked.proofs.PlaceLemmas.{but_last-push}
@@ -74,9 +74,6 @@ module _ {S : Type 0} where
     few = subst (λ n. n < 2 ^ 32) (sym (length-put f b c keys e)) h.few;
     places = λ u. h.places u ∙ sym (places-put u 0 f b c keys e);
   }
-
-  pub indexed-same : (keys : Keys) (old new : IndexMap ℕ (SmallVec ℕ) S) → IsSame old new → IsIndexed keys old → IsIndexed keys new
-  indexed-same keys old new s h = record { triples = h.triples; few = h.few; places = λ u. s.each u ∙ h.places u }
 
   pub indexed-new : (f : Face) (place : ℕ) (keys : Keys) (old new : IndexMap ℕ (SmallVec ℕ) S) → state_of f keys ≡ None → place ≡ length keys → place + 1 < 2 ^ 32 → IsTriple (2 ^ 32) f.0 → IsChanged (and_last place) f.0 old new → IsIndexed keys old → IsIndexed (put f true keys) new
   indexed-new f place keys old new e at more triple c h = record {

@@ -19,7 +19,7 @@ use Rattle.tracked.proofs.PairLemmas.{in-apart}
 pub same-equal : (f g : Face) → same_face f g ≡ true → f ≡ g
 same-equal f g e = ap (λ (x : List ℕ). record { 0 = x }) ((bytes_eq-Decides f.0 g.0).0 e)
 
-same_bools : (p q : Bool) → (p ≡ true → q ≡ true) → (q ≡ true → p ≡ true) → p ≡ q
+pub same_bools : (p q : Bool) → (p ≡ true → q ≡ true) → (q ≡ true → p ≡ true) → p ≡ q
 same_bools true q f g = sym (f refl)
 same_bools false true f g = g refl
 same_bools false false f g = refl
@@ -98,9 +98,6 @@ distinct-put f b keys h = at (state_of f keys) refl
 none-among : (g : Face) (ts : List (List ℕ)) → AllByRecursion (λ t. bytes_eq g.0 t ≡ false) ts → list_any (bytes_eq g.0) ts ≡ false
 none-among g [] h = refl
 none-among g (t ∷ ts) h = rw h.0 (none-among g ts h.1)
-
-or_none : (b : Bool) → b ≡ false → (true || b) ≡ true
-or_none b e = refl
 
 pub is_in-among : (g : Face) (keys : Keys) → IsDistinct same_face (keys_of keys) → is_in g keys ≡ list_any (bytes_eq g.0) (triples_of (faces_in keys))
 is_in-among g [] h = refl

@@ -2,23 +2,16 @@
 use Rattle.std.proofs.Common.{◌≡◌, ℕ, suc, zero, ◌+◌, ◌-◌, ◌<◌, Bool, true, false, cond, ◌||◌, nat_eq, List, [], ◌∷◌, ◌++◌, Option, Some, length, take, get_or, refl, sym, subst, ◌∙◌, ap, inl, inr, arith}
 use Rattle.std.proofs.lemmas.Bool.{cases_Bool, eqb-true, eq-eqb, false≢true, or_from, or_right}
 use Rattle.std.proofs.lemmas.List.{take_more, take_at, length_push}
+use mathlib.Core.Bool.{or_assoc, or-false}
 use Rattle.smallvec.specs.SmallVec.{SmallVec}
 use Rattle.indexmap.specs.IndexMap.{IndexMap, get}
 use Rattle.grid.specs.Simplices.{has, AreDifferent}
 use Rattle.tracked.specs.Places.{IsChanged, IsChangedAt, IsSame, places_at, numbers_in, and_last, but_last}
 
 -- ---- members of a list and of its beginning
-or-assoc : (a b c : Bool) → (a || (b || c)) ≡ ((a || b) || c)
-or-assoc true b c = refl
-or-assoc false b c = refl
-
-or-false : (a : Bool) → (a || false) ≡ a
-or-false true = refl
-or-false false = refl
-
 has-push : (xs : List ℕ) (c u : ℕ) → has (xs ++ c ∷ []) u ≡ (has xs u || nat_eq c u)
 has-push [] c u = or-false (nat_eq c u)
-has-push (x ∷ xs) c u = ap (λ b. nat_eq x u || b) (has-push xs c u) ∙ or-assoc (nat_eq x u) (has xs u) (nat_eq c u)
+has-push (x ∷ xs) c u = ap (λ b. nat_eq x u || b) (has-push xs c u) ∙ sym (or_assoc (nat_eq x u) (has xs u) (nat_eq c u))
 
 shorter : (j n : ℕ) → suc j < suc n → j < n
 shorter j n h = omega arith
@@ -99,9 +92,6 @@ IsChangedAt-inserted {S} point old mid new f w made same h =
     IsChangedAt-written point old new f w made (subst (λ (m : IndexMap ℕ (SmallVec ℕ) S). (q : ℕ) → get nat_eq new q ≡ cond (nat_eq point q) (Some w) (get nat_eq m q)) same h)
 
 -- ---- all corners
-pub IsChanged-none : {S : Type 0} (f : List ℕ → List ℕ) (index : IndexMap ℕ (SmallVec ℕ) S) → IsChanged f [] index index
-IsChanged-none f index = record { each = λ u. refl }
-
 module _ {S : Type 0} (old mid new : IndexMap ℕ (SmallVec ℕ) S) where
   -- one corner more
   pub IsChanged-more : (f : List ℕ → List ℕ) (cs : List ℕ) (i : ℕ) → i < length cs → AreDifferent cs → IsChanged f (take i cs) old mid → IsChangedAt f (get_or cs i 0) mid new → IsChanged f (take (i + 1) cs) old new
@@ -117,9 +107,6 @@ module _ {S : Type 0} (old mid new : IndexMap ℕ (SmallVec ℕ) S) where
       at u true false now e apart p q = rw e (q ∙ p)
       at u false true now e apart p q = rw e (q ∙ ap f p)
       at u false false now e apart p q = rw e (q ∙ p)
-
-  pub IsSame-then : IsSame old mid → IsSame mid new → IsSame old new
-  IsSame-then h k = record { each = λ u. k.each u ∙ h.each u }
 
   -- what was put last and taken out again
   pub IsSame-undone : (i : ℕ) (cs : List ℕ) → IsChanged (and_last i) cs old mid → IsChanged but_last cs mid new → IsSame old new

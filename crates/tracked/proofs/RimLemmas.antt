@@ -1,20 +1,16 @@
 -- The test for a rim point finds one exactly where there is one.
-use Rattle.std.proofs.Common.{◌≡◌, ℕ, ◌<◌, Bool, true, false, not, ◌&&◌, nat_eq, List, [], ◌∷◌, refl, sym, subst, ap, arith, inl, inr}
+use Rattle.std.proofs.Common.{◌≡◌, ℕ, ◌<◌, Bool, true, not, ◌&&◌, nat_eq, List, [], ◌∷◌, sym, subst, ap, arith, inl, inr}
 use Rattle.std.specs.List.{list_any}
-use Rattle.std.proofs.lemmas.Bool.{and_parts, and_from, or_cases, or_left, or_right, cases_Bool, eqb-true, eq-eqb, eqb-false, ne_eqb, true≢false}
+use Rattle.std.proofs.lemmas.Bool.{and_parts, and_from, or_cases, or_left, or_right, cases_Bool, eqb-true, eq-eqb, eqb-false, ne_eqb, true≢false, not-true}
 use Rattle.grid.specs.Rims.{IsRim, triples_at}
 use Rattle.grid.specs.Simplices.{has}
 use Rattle.grid.proofs.Members.{count_by-cons_no}
 use Rattle.tracked.specs.RimEdges.{is_rim_edge, has_rim_edge}
 
-not_true : (b : Bool) → not b ≡ true → b ≡ false
-not_true true e = cc
-not_true false e = refl
-
 edge_is : (all : List (List ℕ)) (u v : ℕ) → is_rim_edge all u v ≡ true → IsRim all u
 edge_is all u v e =
     let p = and_parts (not (nat_eq u v)) (nat_eq (triples_at all u v) 1) e in
-    record { other = v; differs = λ f. eqb-false u v (not_true (nat_eq u v) p.0) (sym f); one = eqb-true (triples_at all u v) 1 p.1 }
+    record { other = v; differs = λ f. eqb-false u v (not-true (nat_eq u v) p.0) (sym f); one = eqb-true (triples_at all u v) 1 p.1 }
 
 pub IsRim-from_edge : (all : List (List ℕ)) (u : ℕ) (t : List ℕ) → has_rim_edge all u t ≡ true → IsRim all u
 IsRim-from_edge all u [] e = absurd (true≢false (sym e))

@@ -1,5 +1,5 @@
 -- Faces that are sorted and differ are in strictly rising order.
-use Rattle.std.proofs.Common.{◌≡◌, ℕ, ◌+◌, ◌<◌, ◌≤◌, Bool, true, false, length, get_or, refl, ap, sym, ◌∙◌, List, [], ◌∷◌, arith}
+use Rattle.std.proofs.Common.{◌≡◌, ℕ, ◌+◌, ◌<◌, ◌≤◌, true, false, length, get_or, refl, ap, sym, ◌∙◌, List, [], ◌∷◌, arith}
 use Rattle.std.specs.declared.cmp.Ordering.{Ordering}
 use Rattle.std.specs.declared.cmp.Ordering.TheVariants.{Less, Equal, Greater}
 use Rattle.std.specs.Cmp.{IsTotalOrder}
@@ -17,6 +17,7 @@ use Rattle.grid.specs.declared.shapes.Face.{Face}
 use Rattle.grid.specs.Meshes.{is_below, Ordered}
 use Rattle.grid.specs.Views.{triples_of}
 use Rattle.tracked.specs.Keys.{same_face}
+use Rattle.tracked.proofs.KeyFacts.{same_bools}
 
 abbrev pub face_cmp : Face → Face → Ordering
 face_cmp f g = slice_cmp nat_cmp f.0 g.0
@@ -45,11 +46,6 @@ LessOrEqual fs = (k : ℕ) (d : Face) → 0 ≤ k → k + 1 < length fs → is_l
 
 pub flip_eq : (x y : List ℕ) → bytes_eq x y ≡ bytes_eq y x
 flip_eq x y = same_bools (bytes_eq x y) (bytes_eq y x) (λ e. (bytes_eq-Decides y x).1 (sym ((bytes_eq-Decides x y).0 e))) (λ e. (bytes_eq-Decides x y).1 (sym ((bytes_eq-Decides y x).0 e)))
-  where
-    same_bools : (p q : Bool) → (p ≡ true → q ≡ true) → (q ≡ true → p ≡ true) → p ≡ q
-    same_bools true q f g = sym (f refl)
-    same_bools false true f g = g refl
-    same_bools false false f g = refl
 
 -- neither above nor equal
 less : (o : Ordering) (r : Ordering) → o ≡ ordering_reverse r → is_lt r ≡ false → is_eq o ≡ false → o ≡ Less

@@ -1,11 +1,12 @@
 use Rattle.std.proofs.Common.{ℕ, Option, ap, subst, ◌∙◌, arith}
 use Rattle.std.specs.Prelude.{unsigned_abs}
+use Rattle.std.proofs.lemmas.Result.{IfOk-weaker}
 use Rattle.grid.specs.Views.{corners_of}
 use Rattle.cert_check.specs.declared.fault.Fault.TheVariants as faults
 use Rattle.cert_check.specs.FileMesh.{file_tets, points_from}
 use Rattle.cert_check.specs.Faults.{Case, case_of}
 use Rattle.cert_check.specs.Passed.{GoesOn}
-use Rattle.cert_check.proofs.Facts.{nodes-in, ok_then, points-all, side-few}
+use Rattle.cert_check.proofs.Facts.{nodes-in, points-all, side-few}
 use Rattle.cert_check.proofs.Passing.{passed_none}
 use Rattle.cert_check.proofs.judgement.first_fault.Goals as goal
 
@@ -52,5 +53,5 @@ fault_of_triangles-requires c =
 pub returns : goal.returns
 returns c =
     let k : Case = case_of c.args.soup.now c.args.mesh.now c.args.report.now c.args.digits in
-    ok_then c.fault_of_triangles.result (λ found. (digits : Option ℕ) → GoesOn (case_of c.args.soup.now c.args.mesh.now c.args.report.now digits) 6 10 found) (GoesOn k 0 10)
+    IfOk-weaker c.fault_of_triangles.result (λ found. (digits : Option ℕ) → GoesOn (case_of c.args.soup.now c.args.mesh.now c.args.report.now digits) 6 10 found) (GoesOn k 0 10)
     (λ found h p. h c.args.digits (subst (GoesOn k 2 6) c.in_default-2.is (c.in_ok-fault.ensures c.args.report.now c.args.digits) (c.in_default.ensures p))) c.fault_of_triangles.ensures

@@ -1,5 +1,5 @@
 use Rattle.std.proofs.Common.{Err, refl, ap, arith, lit≤}
-use Rattle.inputs.proofs.Soups.{placed-for}
+use Rattle.inputs.proofs.ForCallers.{placed-for}
 use Rattle.mesh_run.proofs.height_field.field_of.Goals as goal
 
 pub place-requires-clause-cells : goal.place-requires-clause-cells

@@ -1,5 +1,4 @@
 use Rattle.std.proofs.Common.{◌∙◌, ℕ, List, [], ◌∷◌, ◌++◌, map, get_or, ap, sym, refl, append-nil}
-use Rattle.std.specs.List.{flat_map}
 use Rattle.grid.specs.declared.shapes.Face.{Face}
 use Rattle.grid.specs.Simplices.{rising}
 use Rattle.grid.specs.Views.{triples_of}

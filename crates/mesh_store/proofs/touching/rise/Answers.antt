@@ -1,20 +1,16 @@
-use Rattle.std.proofs.Common.{◌≡◌, Bool, true, false, refl, sym}
+use Rattle.std.proofs.Common.{sym}
 use Rattle.std.proofs.lemmas.List.Filters.{dedup_is}
 use Rattle.std.proofs.lemmas.List.Kept.{Contains-dedup, Contains-from_dedup, IsStrictlySortedBy-dedup}
 use Rattle.std.proofs.lemmas.List.Sorted.{Contains-permutation, IsPermutation-sym}
 use Rattle.std.proofs.lemmas.Map.Text.{is_eq-slice_cmp}
 use Rattle.grid.specs.Views.{triples_of}
 use Rattle.mesh_types.proofs.TripleSets.{is_among}
+use Rattle.mesh_types.proofs.Replaced.{same_bools}
 use Rattle.tracked.proofs.KeyFacts.{same-equal, same_face-IsEquivalence}
 use Rattle.tracked.proofs.Sorted.{face_cmp-total, Ordered-sorted}
 use Rattle.mesh_store.specs.Changes.{face_of}
 use Rattle.mesh_store.proofs.FaceSearches.{Contains-among, among-Contains}
 use Rattle.mesh_store.proofs.touching.rise.Goals as goal
-
-same_bools : (p q : Bool) → (p ≡ true → q ≡ true) → (q ≡ true → p ≡ true) → p ≡ q
-same_bools true q f g = sym (f refl)
-same_bools false true f g = g refl
-same_bools false false f g = refl
 
 pub returns-clause-ordered : goal.returns-clause-ordered
 returns-clause-ordered c =

@@ -1,6 +1,4 @@
 use Rattle.std.proofs.Common.{sym, subst}
-use Rattle.tet_slots.specs.Slots.{SlotLists}
-use Rattle.undo_record.specs.declared.mark.Mark.{Mark}
 use Rattle.mesh_store.specs.Forgetting.{CanRevive}
 use Rattle.mesh_store.specs.Parts.{parts_of}
 use Rattle.mesh_store.proofs.Forgetting.{CanRevive-last, CanRevive-undone}

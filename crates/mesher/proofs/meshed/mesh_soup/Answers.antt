@@ -1,6 +1,7 @@
-use Rattle.std.proofs.Common.{◌≡◌, ◌∙◌, ◌-◌, sym, ap, subst, length, nat_abs, List, All, None, to_z-of_z, arith}
+use Rattle.std.proofs.Common.{◌∙◌, ◌-◌, sym, ap, subst, length, nat_abs, List, All, to_z-of_z, arith}
 use Rattle.std.specs.List.{range_with_len}
 use Rattle.std.proofs.lemmas.List.FromFn.{length-range_with_len}
+use Rattle.soup.proofs.ForCallers.{side-SFits, in-grid}
 use Rattle.grid.specs.declared.shapes.Tri.{Tri}
 use Rattle.grid.specs.Boxes.{IsInBox}
 use Rattle.grid.specs.Limits.{IsSide}
@@ -9,13 +10,13 @@ use Rattle.mesh_types.specs.Journals.{setting}
 use Rattle.mesh_types.specs.Lattice.{lattice}
 use Rattle.mesh_types.specs.Turns.{rolled_back}
 use Rattle.mesh_types.specs.Views.{mesh_of}
+use Rattle.mesh_types.proofs.OneOutcome.{one-each}
 use Rattle.mesh_store.specs.Parts.{StoreView, mesh_in}
 use Rattle.mesh_store.specs.Sound.{IsSound}
 use Rattle.mesh_store.proofs.MeshLemmas.{well_formed}
-use Rattle.mesher.specs.Meshed.{AreCoverings, HasItsCertificate, IsPart, IsSecondOrNone}
-use Rattle.mesher.proofs.Beginning.{first-mesh, side-SFits, in_grid}
+use Rattle.mesher.specs.Meshed.{AreCoverings, HasItsCertificate, IsSecondOrNone}
+use Rattle.mesher.proofs.Beginning.{first-mesh}
 use Rattle.mesher.proofs.Ending.{have-certificates, in-setting, meshed-is, part-of, tiles-as}
-use Rattle.mesher.proofs.Keeping.{one-each}
 use Rattle.mesher.proofs.meshed.mesh_soup.Goals as goal
 
 pub new-requires : goal.new-requires
@@ -57,7 +58,7 @@ coverings-requires-clause-in_box c =
     let kept = c.second_part.ensures.side ∙ (c.first_part.ensures.side ∙ (ap (λ (v : StoreView). v.side) c.in_ok-store.ensures.view ∙ whole)) in
     let sound = subst (λ z. IsSound z c.second_part.new.store.parts) kept c.slots.ensures.sound in
     let inside = subst (λ (m : Mesh). All (IsInBox (nat_abs side)) m.points) (sym c.in_ok-mesh.ensures) sound.in_box in
-    rw c.as_slice-2.ensures (in_grid side c.in_ok-mesh.mesh.points c.requires.side inside)
+    rw c.as_slice-2.ensures (in-grid side c.in_ok-mesh.mesh.points c.requires.side inside)
 
 pub coverings-requires-clause-covered : goal.coverings-requires-clause-covered
 coverings-requires-clause-covered c =

@@ -1,4 +1,4 @@
-use Rattle.std.proofs.Common.{◌≡◌, ◌∙◌, [], List, ℕ, nat_abs, length, sym, ap, subst}
+use Rattle.std.proofs.Common.{◌≡◌, ◌∙◌, [], nat_abs, sym, ap, subst}
 use Rattle.mesh_types.specs.Journals.{JournalRule, StaysSound, last_mesh, setting}
 use Rattle.mesh_types.specs.Turns.{rolled_back}
 use Rattle.mesh_store.specs.Parts.{mesh_in}

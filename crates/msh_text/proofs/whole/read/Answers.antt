@@ -1,7 +1,7 @@
 use Rattle.std.proofs.Common.{sym, ◌∙◌, inr, refl, length, subst}
 use Rattle.lines.specs.Gives.{Fails}
 use Rattle.msh_text.specs.Rules.{msh_rules}
-use Rattle.lines.proofs.Laws.{left_high, rest_short, some_left}
+use Rattle.lines.proofs.ForCallers.{left_high, rest_short, some_left}
 use Rattle.msh_text.proofs.SaysText.{is_text}
 use Rattle.msh_text.proofs.whole.read.Goals as goal
 

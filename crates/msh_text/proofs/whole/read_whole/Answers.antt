@@ -2,7 +2,7 @@ use Rattle.std.proofs.Common.{ℕ, List, Bool, sym, subst}
 use Rattle.std.proofs.lemmas.Result.{err_from_is_err_and}
 use Rattle.lines.specs.Forms.{Reads, repeat}
 use Rattle.lines.specs.Gives.{Fails}
-use Rattle.lines.proofs.Laws.{starts, goes_on, ends, fails}
+use Rattle.lines.proofs.ForCallers.{starts, goes_on, ends, fails}
 use Rattle.msh_text.specs.declared.file_mesh.MshNode.{MshNode}
 use Rattle.msh_text.specs.Rules.{msh_rules, more_elements, no_elements}
 use Rattle.msh_text.proofs.SaysText.{elements_by_marks}

@@ -2,7 +2,7 @@ use Rattle.std.proofs.Common.{List, [], ◌++◌, ◌+◌, ap, ◌∙◌, length
 use Rattle.std.specs.Prelude.{codes}
 use Rattle.std.specs.List.{enumerate_from, flat_map}
 use Rattle.grid.specs.declared.shapes.Face.{Face}
-use Rattle.lines.proofs.Putting.{put_more}
+use Rattle.lines.proofs.ForCallers.{put_more}
 use Rattle.msh_text.specs.declared.file_mesh.MshNode.{MshNode}
 use Rattle.msh_text.specs.declared.file_mesh.MshTet.{MshTet}
 use Rattle.msh_text.specs.Text.{count_line, face_line, middle_text, node_line, tet_line}

@@ -1,5 +1,6 @@
 use Rattle.std.proofs.Common.{to_z-of_z}
-use Rattle.outputs.proofs.Making.{report_is, side-SFits}
+use Rattle.soup.proofs.ForCallers.{side-SFits}
+use Rattle.outputs.proofs.Making.{report_is}
 use Rattle.outputs.proofs.made.report_of.Goals as goal
 
 pub returns : goal.returns

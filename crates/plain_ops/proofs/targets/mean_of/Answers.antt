@@ -3,7 +3,8 @@ use mir.Syntax.{w32, w64}
 use Rattle.std.specs.Int.{int_div_euclid}
 use Rattle.std.proofs.Math.Facts.{to_z_pos}
 use Rattle.grid.specs.Boxes.{IsUpTo}
-use Rattle.plain_ops.proofs.Means.{mean-in, small-fits}
+use Rattle.mesh_types.proofs.SumsInTurn.{small-fits}
+use Rattle.plain_ops.proofs.Means.{mean-in}
 use Rattle.plain_ops.proofs.targets.mean_of.Goals as goal
 
 pub returns-clause-value : goal.returns-clause-value

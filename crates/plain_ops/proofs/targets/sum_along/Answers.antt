@@ -3,7 +3,7 @@ use mir.Syntax.{w32, w64}
 use Rattle.grid.specs.Boxes.{IsUpTo}
 use Rattle.grid.specs.Determinants.{point_at}
 use Rattle.plain_ops.specs.Targets.{along}
-use Rattle.plain_ops.proofs.Means.{small-fits, sum-more, up_to-more}
+use Rattle.mesh_types.proofs.SumsInTurn.{small-fits, sum-more, IsUpTo-sum}
 use Rattle.plain_ops.proofs.targets.sum_along.Goals as goal
 
 pub loop-w-preserved : goal.loop-w-preserved
@@ -17,5 +17,5 @@ loop-w-preserved c =
     let new : to_z w64 (of_z w64 c.plus-sum.result) ≡ sum +ℤ c.coordinate.result = to_z-of_z wide ∙ is in
     record {
       rest = sum-more (λ w. along c.args.axis (point_at c.args.points.now w)) c.args.ws.now i sum _ _ (omega arith) c.loop-w.invariant.rest (new ∙ ap (λ (z : ℤ). sum +ℤ z) c.coordinate.ensures.value);
-      within = subst (λ n. IsUpTo n (to_z w64 (of_z w64 c.plus-sum.result))) more (up_to-more (2 ^ 18 * i) (2 ^ 18) sum c.coordinate.result _ c.loop-w.invariant.within c.coordinate.ensures.within new);
+      within = subst (λ n. IsUpTo n (to_z w64 (of_z w64 c.plus-sum.result))) more (IsUpTo-sum (2 ^ 18 * i) (2 ^ 18) sum c.coordinate.result _ c.loop-w.invariant.within c.coordinate.ensures.within new);
     }

@@ -1,7 +1,7 @@
 use Rattle.std.proofs.Common.{ℕ, List, Option, sym, subst}
 use Rattle.std.proofs.lemmas.Result.{err_from_is_err_and}
 use Rattle.lines.specs.Forms.{field, Reads}
-use Rattle.lines.proofs.Laws.{goes_on, ends, fails}
+use Rattle.lines.proofs.ForCallers.{goes_on, ends, fails}
 use Rattle.mesh_types.specs.declared.cert.Cert.{Cert}
 use Rattle.mesh_types.specs.declared.cert.Cert.TheVariants as certs
 use Rattle.report_text.specs.Rules.{certificate, certificate_text, CertificateAllowed}

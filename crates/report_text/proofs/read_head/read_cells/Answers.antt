@@ -1,9 +1,7 @@
 use Rattle.std.proofs.Common.{length, refl, sym, ◌∙◌, arith}
 use Rattle.std.specs.Prelude.{codes}
 use Rattle.std.proofs.lemmas.Result.{err_from_is_err_and}
-use Rattle.lines.proofs.Laws.{starts, goes_on, ends_with, fails, narrow_reads, narrow_breaks, narrow_fails}
-use Rattle.lines.proofs.Clear.{word_clear}
-use Rattle.lines.proofs.Going.{fails_last}
+use Rattle.lines.proofs.ForCallers.{starts, goes_on, ends_with, fails, narrow_reads, narrow_breaks, narrow_fails, word_clear, fails_last}
 use Rattle.lines.specs.Fields.{feed, word, Between}
 use Rattle.report_text.specs.Rules.{named, IsCells}
 use Rattle.report_text.proofs.Head.{other_than}

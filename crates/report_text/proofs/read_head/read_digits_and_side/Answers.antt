@@ -1,6 +1,5 @@
 use Rattle.std.proofs.lemmas.Result.{err_from_is_err_and}
-use Rattle.lines.proofs.Laws.{starts, goes_on, ends, ends_with, fails}
-use Rattle.lines.proofs.Going.{fails_last}
+use Rattle.lines.proofs.ForCallers.{starts, goes_on, ends, ends_with, fails, fails_last}
 use Rattle.std.specs.Prelude.{codes}
 use Rattle.report_text.specs.declared.kinds.SizeKind.TheVariants as size_kinds
 use Rattle.report_text.specs.Rules.{named, size_behind, IsSide}

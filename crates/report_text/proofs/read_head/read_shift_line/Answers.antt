@@ -1,10 +1,9 @@
 use Rattle.std.proofs.Common.{rules, ◌≡◌, ◌*◌, ◌^◌, ◌≤◌, SFits, w64, to_z, of_z, to_z-of_z, sym, subst}
 use Rattle.std.specs.Prelude.{ℤ, unsigned_abs}
 use Rattle.lines.specs.Fields.{space, feed, decimal_word, Within}
-use Rattle.lines.proofs.Going.{field_allowed}
+use Rattle.lines.proofs.ForCallers.{field_allowed, starts, goes_on, ends, fails}
 use Rattle.report_text.proofs.Head.{three_near}
 use Rattle.std.proofs.lemmas.Result.{err_from_is_err_and}
-use Rattle.lines.proofs.Laws.{starts, goes_on, ends, fails}
 use Rattle.report_text.specs.Rules.{shift_line}
 use Rattle.report_text.proofs.read_head.read_shift_line.Goals as goal
 

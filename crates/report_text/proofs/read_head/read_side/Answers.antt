@@ -1,7 +1,6 @@
 use Rattle.std.proofs.Common.{◌^◌, refl, sym, ◌∙◌, arith}
 use Rattle.std.proofs.lemmas.Result.{err_from_is_err_and}
-use Rattle.lines.proofs.Laws.{narrow_reads, narrow_breaks, narrow_fails}
-use Rattle.lines.proofs.Clear.{word_clear}
+use Rattle.lines.proofs.ForCallers.{narrow_reads, narrow_breaks, narrow_fails, word_clear}
 use Rattle.lines.specs.Fields.{feed, word, Between}
 use Rattle.report_text.specs.Rules.{IsSide}
 use Rattle.report_text.proofs.Head.{other_than}

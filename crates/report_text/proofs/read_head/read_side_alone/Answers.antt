@@ -1,5 +1,5 @@
 use Rattle.std.proofs.lemmas.Result.{err_from_is_err_and}
-use Rattle.lines.proofs.Laws.{starts, goes_on, ends, fails}
+use Rattle.lines.proofs.ForCallers.{starts, goes_on, ends, fails}
 use Rattle.report_text.specs.declared.kinds.SizeKind.TheVariants as size_kinds
 use Rattle.report_text.specs.Rules.{size_behind}
 use Rattle.report_text.proofs.read_head.read_side_alone.Goals as goal

@@ -1,8 +1,7 @@
 use Rattle.std.proofs.Common.{subst}
 use Rattle.std.proofs.lemmas.Result.{err_from_is_err_and}
 use Rattle.lines.specs.Forms.{Reads}
-use Rattle.lines.proofs.Laws.{starts, goes_on, fails}
-use Rattle.lines.proofs.Going.{gives_on}
+use Rattle.lines.proofs.ForCallers.{starts, goes_on, fails, gives_on}
 use Rattle.report_text.specs.declared.kinds.SizeKind.{SizeKind}
 use Rattle.report_text.specs.declared.report.Size.{Size}
 use Rattle.report_text.specs.Rules.{size, one_of, size_kind_text}

@@ -1,6 +1,6 @@
 use Rattle.std.proofs.Common.{◌≡◌, ◌-◌, []}
 use Rattle.lines.specs.Forms.{repeat}
-use Rattle.lines.proofs.Laws.{Continues}
+use Rattle.lines.proofs.ForCallers.{Continues}
 use Rattle.report_text.specs.Rules.{more_again, least_next}
 use Rattle.report_text.proofs.read_lists.read_again.Given as goal
 

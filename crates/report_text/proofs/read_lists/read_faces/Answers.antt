@@ -1,7 +1,7 @@
 use Rattle.std.proofs.Common.{[], ◌∷◌, ◌++◌}
 use Rattle.std.proofs.lemmas.Result.{err_from_is_err_and}
 use Rattle.lines.specs.Forms.{repeat}
-use Rattle.lines.proofs.Laws.{starts, goes_on, ends, fails, repeats, repeat_stops, repeats_all}
+use Rattle.lines.proofs.ForCallers.{starts, goes_on, ends, fails, repeats, repeat_stops, repeats_all}
 use Rattle.report_text.specs.Rules.{more_faces}
 use Rattle.report_text.proofs.read_lists.read_faces.Goals as goal
 

@@ -2,7 +2,7 @@ use Rattle.std.proofs.Common.{[], ◌∷◌, ◌++◌, length, sym, ap, subst, a
 use Rattle.std.proofs.lemmas.List.{length-append}
 use Rattle.std.proofs.lemmas.Result.{err_from_is_err_and}
 use Rattle.lines.specs.Forms.{Reads, repeat}
-use Rattle.lines.proofs.Laws.{starts, goes_on, ends, fails, repeats, repeat_stops, repeats_all}
+use Rattle.lines.proofs.ForCallers.{starts, goes_on, ends, fails, repeats, repeat_stops, repeats_all}
 use Rattle.lines.specs.Fields.{space, number, Between}
 use Rattle.lines.specs.Gives.{Fails}
 use Rattle.report_text.specs.Rules.{more_outcomes}

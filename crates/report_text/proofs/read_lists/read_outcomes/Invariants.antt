@@ -1,6 +1,6 @@
 use Rattle.std.proofs.Common.{◌≡◌, ◌-◌, [], length}
 use Rattle.lines.specs.Forms.{repeat}
-use Rattle.lines.proofs.Laws.{Continues}
+use Rattle.lines.proofs.ForCallers.{Continues}
 use Rattle.report_text.specs.Rules.{more_outcomes}
 use Rattle.report_text.proofs.read_lists.read_outcomes.Given as goal
 

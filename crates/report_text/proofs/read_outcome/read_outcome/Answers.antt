@@ -1,7 +1,6 @@
 use Rattle.std.proofs.Common.{subst}
 use Rattle.std.proofs.lemmas.Result.{err_from_is_err_and}
-use Rattle.lines.proofs.Laws.{starts, goes_on, ends, fails}
-use Rattle.lines.proofs.Going.{gives_on}
+use Rattle.lines.proofs.ForCallers.{starts, goes_on, ends, fails, gives_on}
 use Rattle.report_text.specs.Rules.{outcome, one_of, outcome_text}
 use Rattle.report_text.specs.declared.kinds.OutcomeKind.{OutcomeKind}
 use Rattle.lines.specs.Forms.{Reads}

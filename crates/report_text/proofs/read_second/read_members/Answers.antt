@@ -1,6 +1,6 @@
 use Rattle.std.proofs.Common.{List, Some, sym, subst}
 use Rattle.std.proofs.lemmas.Result.{err_from_is_err_and}
-use Rattle.lines.proofs.Laws.{starts, goes_on, ends, fails}
+use Rattle.lines.proofs.ForCallers.{starts, goes_on, ends, fails}
 use Rattle.lines.specs.Forms.{Reads}
 use Rattle.mesh_types.specs.declared.outcome.Again.{Again}
 use Rattle.report_text.specs.declared.kinds.PartKind.TheVariants as part_kinds

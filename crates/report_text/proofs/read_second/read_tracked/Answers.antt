@@ -1,6 +1,6 @@
 use Rattle.std.proofs.Common.{[]}
 use Rattle.std.proofs.lemmas.Result.{err_from_is_err_and}
-use Rattle.lines.proofs.Laws.{starts, goes_on, ends, fails}
+use Rattle.lines.proofs.ForCallers.{starts, goes_on, ends, fails}
 use Rattle.report_text.specs.declared.kinds.PartKind.TheVariants as part_kinds
 use Rattle.report_text.specs.Rules.{part_behind}
 use Rattle.report_text.proofs.read_second.read_tracked.Goals as goal

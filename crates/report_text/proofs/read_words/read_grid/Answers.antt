@@ -2,9 +2,7 @@ use Rattle.std.proofs.Common.{rules, ◌≡◌, ◌+◌, ◌^◌, ◌*◌, lengt
 use Rattle.std.specs.Prelude.{ℤ, ◌-ℤ◌}
 use Rattle.std.proofs.lemmas.Result.{err_from_is_err_and}
 use Rattle.lines.specs.Fields.{decimal_word, Within}
-use Rattle.lines.proofs.Laws.{starts, goes_on, ends, fails, fails_first, narrow_reads, narrow_breaks, narrow_fails}
-use Rattle.lines.proofs.Clear.{coordinate_clear}
-use Rattle.lines.proofs.Going.{field_allowed}
+use Rattle.lines.proofs.ForCallers.{starts, goes_on, ends, fails, fails_first, narrow_reads, narrow_breaks, narrow_fails, coordinate_clear, field_allowed}
 use Rattle.report_text.specs.Rules.{grid_number, IsGrid}
 use Rattle.lines.specs.Forms.{Reads}
 use Rattle.report_text.proofs.read_words.read_grid.Goals as goal

@@ -1,7 +1,6 @@
 use Rattle.std.proofs.lemmas.Result.{err_from_is_err_and}
 use Rattle.lines.specs.Fields.{Between}
-use Rattle.lines.proofs.Laws.{starts, goes_on, fails}
-use Rattle.lines.proofs.Going.{gives_on}
+use Rattle.lines.proofs.ForCallers.{starts, goes_on, fails, gives_on}
 use Rattle.report_text.specs.Rules.{named}
 use Rattle.report_text.proofs.read_words.read_named.Goals as goal
 

@@ -4,7 +4,7 @@ use Rattle.std.proofs.Math.Facts.{to_z_pos}
 use Rattle.std.proofs.lemmas.Result.{err_from_is_err_and}
 use Rattle.lines.specs.Forms.{Reads}
 use Rattle.lines.specs.Gives.{Fails}
-use Rattle.lines.proofs.Laws.{starts, goes_on, ends, fails}
+use Rattle.lines.proofs.ForCallers.{starts, goes_on, ends, fails}
 use Rattle.report_text.specs.Rules.{report_rules, second_part}
 use Rattle.report_text.proofs.whole.read_whole.Goals as goal
 

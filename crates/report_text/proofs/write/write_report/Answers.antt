@@ -1,6 +1,6 @@
 use Rattle.std.proofs.Common.{rules, SFits, w32, to_z-of_z, ℕ, ℤ, List, ap, ◌∙◌, ◌++◌, [], length}
 use Rattle.std.specs.Prelude.{codes}
-use Rattle.lines.proofs.Putting.{put_more, put_last}
+use Rattle.lines.proofs.ForCallers.{put_more, put_last}
 use Rattle.std.specs.List.{enumerate_from, flat_map}
 use Rattle.mesh_types.specs.declared.outcome.Outcome.{Outcome}
 use Rattle.mesh_types.specs.declared.tries.TryLine.{TryLine}
