@@ -1,5 +1,5 @@
 #!/usr/bin/env python3
-"""Times whole runs of `mesh` over a cube, spheres and a height field.
+"""Times whole runs of `mesh` over a cube, spheres, height fields and random triangles.
 
 The insertion alone, the run with tries, and `check` of what that wrote are timed in turn.
 
@@ -7,6 +7,7 @@ With another program that takes the same words, its seconds stand beside: runs.p
 """
 
 import math
+import random
 import sys
 import tempfile
 from dataclasses import dataclass
@@ -87,6 +88,15 @@ def height_field(count, step):
     return points, faces
 
 
+def scattered(count, size, width):
+    """Random triangles of about the size, in a cube of the width; the same ones in each run."""
+    numbers, points = random.Random(1), []
+    for _ in range(count):
+        middle = [numbers.randrange(size, width - size) for _ in range(3)]
+        points += [tuple(x + numbers.randrange(-size, size) for x in middle) for _ in range(3)]
+    return points, [(i, i + 1, i + 2) for i in range(0, 3 * count, 3)]
+
+
 def timed(start, words, folder):
     done = best([*start, *words], folder, times=1)
     if done.status != 0:
@@ -118,9 +128,12 @@ def main():
         Case("sphere, radius 8192", sphere(8192, 2)),
         Case("sphere, radius 8192", sphere(8192, 3)),
         Case("sphere, radius 8192", sphere(8192, 4)),
+        Case("sphere, radius 90000", sphere(90000, 2), has_tries=False),
         Case("sphere, radius 90000", sphere(90000, 3), has_tries=False),
         Case("sphere, radius 90000", sphere(90000, 4), has_tries=False),
-        Case("height field", height_field(16, 512)),
+        Case("height field, 16 squares a side", height_field(16, 512)),
+        Case("height field, 64 squares a side", height_field(64, 128)),
+        Case("random triangles", scattered(500, 400, 8192)),
     ]
     names = ["surface", "triangles", "budget 0, s", "mesh, s", "MiB", "check, s"]
     programs = [[program()]]
