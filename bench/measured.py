@@ -8,6 +8,7 @@ import shutil
 import subprocess
 import sys
 import tempfile
+import textwrap
 from dataclasses import dataclass
 from pathlib import Path
 
@@ -83,7 +84,8 @@ def write_section(script, about, rows):
     page = PAGE.read_text() if PAGE.exists() else HEAD
     head, *sections = re.split(r"(?m)^(?=## )", page)
     title = f"## `{script}`"
-    body = "\n".join([title, "", about, "", *rows, "", f"{datetime.date.today()}, {machine()}.", ""])
+    told = textwrap.fill(about, 110, break_long_words=False)
+    body = "\n".join([title, "", told, "", *rows, "", f"{datetime.date.today()}, {machine()}.", ""])
     sections = [one.strip() + "\n" for one in sections if not one.startswith(title + "\n")] + [body]
     PAGE.write_text("\n".join([head.strip() + "\n", *sorted(sections)]))
 
