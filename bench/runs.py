@@ -98,7 +98,7 @@ def scattered(count, size, width):
 
 
 def timed(start, words, folder):
-    done = best([*start, *words], folder, times=1)
+    done = best([*start, *words], folder)
     if done.status != 0:
         sys.exit(f"{start[0]} ended with status {done.status}: {done.printed}")
     return done
