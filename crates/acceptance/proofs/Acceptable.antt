@@ -6,7 +6,7 @@ use Rattle.std.proofs.lemmas.List.FromFn.{length-range_with_len}
 use Rattle.std.proofs.lemmas.List.Elements.{All-from_recursion, recursion_from_All}
 use Rattle.background.proofs.Tiling.{lattice-IsWellFormed, lattice-IsWithinLimits, lattice-Tiles, lattice-IsInBox}
 use Rattle.grid.specs.Boxes.{IsInBox}
-use Rattle.grid.specs.Limits.{IsSide}
+use Rattle.grid.specs.Limits.{IsSide, largest_side}
 use Rattle.grid.specs.Meshes.{Mesh, IsTriple, Tiles}
 use Rattle.grid.specs.Regions.{AreRegions}
 use Rattle.mesh_types.specs.Journals.{setting}
@@ -134,7 +134,7 @@ module _ (asked : Asked) (soup : Soup) (made : Meshed) (run : IsRun asked soup m
   module _ (regions : List Bool) (are_regions : AreRegions m.tets m.tracked regions) where
     made_plain : IsFileMesh (unwrap_or asked.digits 0) (file_of asked soup made regions)
     made_plain =
-        let most : nat_abs soup.side ≤ 2 ^ 18 = let k = at.most in omega (arith, side_nat, k) in
+        let most : nat_abs soup.side ≤ largest_side = let k = at.most in omega (arith, side_nat, k) in
         file_plain m (nat_abs soup.side) run.meshed.well_formed run.meshed.tiles run.meshed.within.points_few run.meshed.in_box most soup.shift
         (record { x_few = at.x_few; y_few = at.y_few; z_few = at.z_few }) regions (unwrap_or asked.digits 0) few
 

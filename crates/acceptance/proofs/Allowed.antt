@@ -2,6 +2,7 @@
 use Rattle.std.proofs.Common.{◌≡◌, ℕ, zero, suc, ◌^◌, ◌≤◌, true, pos, refl, sym, subst, arith, lit≤}
 use native.Mathlib.Nat.{pow-le-pow_right}
 use Rattle.grid.specs.Limits as grid_limits
+use Rattle.grid.specs.Limits.{largest_side}
 use Rattle.report_text.specs.Rules.{is_one_of, sides, cell_counts, IsSide, IsCells}
 
 -- ---- cells
@@ -49,7 +50,7 @@ power_sides (suc (suc (suc (suc (suc (suc (suc (suc (suc (suc (suc (suc (suc (su
 pub side_allowed : (l : ℕ) → grid_limits.IsSide (pos l) → IsSide l
 side_allowed l h =
     let least : 2 ^ 4 ≤ 2 ^ h.power = pow-le-pow_right (lit≤ tt) h.power_least in
-    let most : 2 ^ h.power ≤ 2 ^ 18 = pow-le-pow_right (lit≤ tt) h.power_most in
+    let most : 2 ^ h.power ≤ largest_side = pow-le-pow_right (lit≤ tt) h.power_most in
     subst IsSide (sym (same l (2 ^ h.power) h.is)) ((omega (arith, least), omega (arith, most)), power_sides h.power h.power_least h.power_most)
   where
     same : (m n : ℕ) → pos m ≡ pos n → m ≡ n

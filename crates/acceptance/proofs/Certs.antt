@@ -1,7 +1,8 @@
 -- The certificates of the mesher are certificates, and plain ones.
-use Rattle.std.proofs.Common.{◌≡◌, ℕ, zero, suc, ◌+◌, ◌^◌, ◌≤◌, List, [], ◌∷◌, length, All, refl, arith}
+use Rattle.std.proofs.Common.{◌≡◌, ℕ, zero, suc, ◌+◌, ◌≤◌, List, [], ◌∷◌, length, All, refl, arith}
 use Rattle.std.proofs.lemmas.List.Elements.{All-from_recursion}
 use Rattle.grid.specs.declared.shapes.Tri.{Tri}
+use Rattle.grid.specs.Limits.{most_input}
 use Rattle.mesh_types.specs.declared.cert.Cert.{Cert, out-Cert}
 use Rattle.mesh_types.specs.declared.cert.Cert.TheOpen.{Cert-F}
 use Rattle.mesh_types.specs.declared.cert.Cert.TheOpen as open_cert
@@ -20,7 +21,7 @@ four_plain P Q g f (a ∷ b ∷ c ∷ d ∷ []) h =
     (refl, All-from_recursion Q (a ∷ b ∷ c ∷ d ∷ []) (g (at 0) a h.0, (g (at 1) b h.1.0, (g (at 2) c h.1.1.0, (g (at 3) d h.1.1.1.0, tt)))))
 
 module _ (triangles : List Tri) (e : ℕ) where
-  module _ (few : length triangles ≤ 2 ^ 20) where
+  module _ (few : length triangles ≤ most_input) where
     top_plain : (k : ℕ) (f : Tri) (P Q : List Cert → Type 0) → ((parts : List Cert) → P parts → Q parts) → (x : Cert-F Cert) → CoversLevel triangles e k f P x → IsPlainTop Q x
     top_plain k f P Q g (open_cert.Leaf t) h = let lt = h.in_range in omega (arith, lt, few)
     top_plain k f P Q g (open_cert.Split parts) h = g parts h

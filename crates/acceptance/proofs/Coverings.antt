@@ -1,5 +1,5 @@
 -- The coverings of a run: their faces lie off the box, and they are plain.
-use Rattle.std.proofs.Common.{◌≡◌, ℕ, ◌+◌, ◌^◌, ◌<◌, ◌≤◌, true, List, [], ◌∷◌, length, All, refl, sym, ap, ◌∙◌, subst, inl, inr, arith}
+use Rattle.std.proofs.Common.{◌≡◌, ℕ, ◌+◌, ◌<◌, ◌≤◌, true, List, [], ◌∷◌, length, All, refl, sym, ap, ◌∙◌, subst, inl, inr, arith}
 use Rattle.std.specs.List.{AllZip, AllByRecursion as Each}
 use Rattle.std.proofs.lemmas.List.{length-map}
 use Rattle.std.proofs.lemmas.List.Elements.{All-from_recursion, recursion_from_All}
@@ -12,6 +12,7 @@ use Rattle.grid.specs.Boxes.{Side, IsOn}
 use Rattle.grid.specs.Determinants.{point_at}
 use Rattle.grid.specs.Meshes.{IsTriple}
 use Rattle.grid.specs.Simplices.{has, Rises}
+use Rattle.grid.specs.Limits.{most_input, most_points}
 use Rattle.lines.specs.Fields.{Between}
 use Rattle.cert_check.specs.Faults.{tri_of}
 use Rattle.cert_check.specs.Written.{IsCoveringOfTriple}
@@ -69,17 +70,17 @@ module _ (triangles : List Tri) (e : ℕ) (points : List Point) where
   tracked_off l n inside ts cs triples h = firsts (IsCoveringOfTriple triangles e points) (IsTriple n) (IsOffBox points l)
       (λ t c triple cover. off_triple points l t triple.three (covers_inside triangles e l inside most_levels 0 (tri_of points t) c.cert cover.covers)) ts cs triples h
 
-  between : (n : ℕ) (t : List ℕ) → n ≤ 2 ^ 20 → Each (λ u. u < n) t → Each (Between 1 (2 ^ 20)) (file_numbers t)
+  between : (n : ℕ) (t : List ℕ) → n ≤ most_points → Each (λ u. u < n) t → Each (Between 1 most_points) (file_numbers t)
   between n [] few h = tt
   between n (u ∷ t) few h = let lt = h.0 in ((omega arith, omega (arith, lt, few)), between n t few h.1)
 
-  plain_covering : (n : ℕ) → n ≤ 2 ^ 20 → length triangles ≤ 2 ^ 20 → (t : List ℕ) (c : Covering) → IsTriple n t → IsCoveringOfTriple triangles e points t c → IsPlainCovering c
+  plain_covering : (n : ℕ) → n ≤ most_points → length triangles ≤ most_input → (t : List ℕ) (c : Covering) → IsTriple n t → IsCoveringOfTriple triangles e points t c → IsPlainCovering c
   plain_covering n few triangles_few t c triple cover = record {
     three = ap (λ (f : Face). length f.0) cover.face ∙ (length-map t (λ u. u + 1) ∙ triple.three);
     rises = subst (λ (f : Face). Rises f.0) (sym cover.face) (Rises-next t triple.rises);
-    in_range = subst (λ (f : Face). All (Between 1 (2 ^ 20)) f.0) (sym cover.face) (All-from_recursion (Between 1 (2 ^ 20)) (file_numbers t) (between n t few (recursion_from_All (λ u. u < n) t triple.in_range)));
+    in_range = subst (λ (f : Face). All (Between 1 most_points) f.0) (sym cover.face) (All-from_recursion (Between 1 most_points) (file_numbers t) (between n t few (recursion_from_All (λ u. u < n) t triple.in_range)));
     cert_is = covers_plain triangles e triangles_few most_levels 0 (tri_of points t) c.cert cover.covers;
   }
 
-  pub coverings_plain : (n : ℕ) → n ≤ 2 ^ 20 → length triangles ≤ 2 ^ 20 → (ts : List (List ℕ)) (cs : List Covering) → Each (IsTriple n) ts → AllZip (IsCoveringOfTriple triangles e points) ts cs → All IsPlainCovering cs
+  pub coverings_plain : (n : ℕ) → n ≤ most_points → length triangles ≤ most_input → (ts : List (List ℕ)) (cs : List Covering) → Each (IsTriple n) ts → AllZip (IsCoveringOfTriple triangles e points) ts cs → All IsPlainCovering cs
   coverings_plain n few triangles_few ts cs triples h = All-from_recursion IsPlainCovering cs (seconds (IsCoveringOfTriple triangles e points) (IsTriple n) IsPlainCovering (plain_covering n few triangles_few) ts cs triples h)

@@ -11,6 +11,7 @@ use Rattle.grid.specs.Boxes.{IsOnOneSide}
 use Rattle.mesh_types.proofs.Replaced.{has_first}
 use Rattle.grid.specs.Meshes.{Mesh, Ordered, IsTriple, IsWellFormed, Tiles}
 use Rattle.grid.specs.Simplices.{has, faces, all_faces, is_rotation, count, rising, Rises, has_all, same_corners, IsTet}
+use Rattle.grid.specs.Limits.{most_made}
 use Rattle.mesh_types.proofs.Sums.{total, bit, total-swap, count_by-total}
 use Rattle.mesh_types.proofs.Each.{Each-weaker, Each-of_flat_map, Each-both}
 use Rattle.mesh_types.proofs.Same.{Turn, still, once, twice, turn_of, has-reversed, rotations, same_corners_from}
@@ -195,5 +196,5 @@ module _ (m : Mesh) (l : ℕ) (wf : IsWellFormed m) (tiles : Tiles m l) where
       (Each-both (Contains (map rising fs)) (IsOffBox m.points l) m.tracked (recursion_from_All (Contains (map rising fs)) m.tracked tiles.fills.tracked_are) off)) in
       omega (arith, half, four_faces n m.tets cornered)
 
-  pub elements_few : Each (IsOffBox m.points l) m.tracked → length m.tets ≤ 2 ^ 22 → length m.tets + length m.tracked ≤ 2 ^ 24
+  pub elements_few : Each (IsOffBox m.points l) m.tracked → length m.tets ≤ most_made → length m.tets + length m.tracked ≤ 2 ^ 24
   elements_few off few = omega (arith, tracked_few off, few)

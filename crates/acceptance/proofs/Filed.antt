@@ -10,6 +10,7 @@ use Rattle.grid.specs.declared.shapes.Point.{Point}
 use Rattle.grid.specs.Boxes.{IsInBox}
 use Rattle.grid.specs.Meshes.{Mesh, IsTriple, IsWellFormed, Ordered, Tiles}
 use Rattle.grid.specs.Simplices.{has, all_faces, rising, IsTet}
+use Rattle.grid.specs.Limits.{largest_side, most_points}
 use Rattle.lines.specs.Fields.{Between, Within}
 use Rattle.mesh_types.proofs.Each.{Each-weaker, Each-both}
 use Rattle.mesh_types.proofs.Refinement.{Each-map}
@@ -74,7 +75,7 @@ pub record IsShift (shift : List ℤ) : Type 0 where
   pub y_few : IsWithin most_shift (slice_index_or shift 1 (pos 0))
   pub z_few : IsWithin most_shift (slice_index_or shift 2 (pos 0))
 
-file_node : (l : ℕ) (shift : List ℤ) → l ≤ 2 ^ 18 → IsShift shift → (c : ℕ) (p : Point) → c < 2 ^ 20 → IsInBox l p → IsFileNode (node_of shift (c, p))
+file_node : (l : ℕ) (shift : List ℤ) → l ≤ largest_side → IsShift shift → (c : ℕ) (p : Point) → c < most_points → IsInBox l p → IsFileNode (node_of shift (c, p))
 file_node l shift most h c p lt inside = record {
   in_range = (omega arith, omega (arith, lt));
   three = refl;
@@ -82,7 +83,7 @@ file_node l shift most h c p lt inside = record {
       (shifted_few l p.x _ most inside.x_in h.x_few, (shifted_few l p.y _ most inside.y_in h.y_few, (shifted_few l p.z _ most inside.z_in h.z_few, tt)));
 }
 
-module _ (m : Mesh) (l : ℕ) (wf : IsWellFormed m) (tiles : Tiles m l) (points_few : length m.points ≤ 2 ^ 20) (inside : All (IsInBox l) m.points) (most : l ≤ 2 ^ 18) (shift : List ℤ) (is_shift : IsShift shift) where
+module _ (m : Mesh) (l : ℕ) (wf : IsWellFormed m) (tiles : Tiles m l) (points_few : length m.points ≤ most_points) (inside : All (IsInBox l) m.points) (most : l ≤ largest_side) (shift : List ℤ) (is_shift : IsShift shift) where
   abbrev nodes : List MshNode
   nodes = msh_nodes m shift
 
@@ -115,7 +116,7 @@ module _ (m : Mesh) (l : ℕ) (wf : IsWellFormed m) (tiles : Tiles m l) (points_
         digits_are = refl;
         nodes_few = let k = nodes_few shift (is_used m.tets) 0 m.points in omega (arith, k, points_few);
         elements_few = omega (arith, few, length-map (zip m.tets regions) tet_of, zip_few m.tets regions, length-map m.tracked face_of);
-        nodes_are = All-from_recursion IsFileNode nodes (each_node shift (is_used m.tets) (IsInBox l) IsFileNode (2 ^ 20) 0 m.points (omega (arith, points_few)) (file_node l shift most is_shift) (recursion_from_All (IsInBox l) m.points inside));
+        nodes_are = All-from_recursion IsFileNode nodes (each_node shift (is_used m.tets) (IsInBox l) IsFileNode most_points 0 m.points (omega (arith, points_few)) (file_node l shift most is_shift) (recursion_from_All (IsInBox l) m.points inside));
         numbers_rise = numbers_rise shift (is_used m.tets) 0 m.points;
         tets_are = All-from_recursion (IsFileTet nodes) tets (Each-map (λ (p : List ℕ × Bool). IsFileTet nodes (tet_of p)) (IsFileTet nodes) tet_of (λ p h. h) (zip m.tets regions)
             (zip_each pair (λ p. IsFileTet nodes (tet_of p)) file_tet m.tets regions

@@ -11,8 +11,9 @@ use Rattle.grid.specs.declared.shapes.Tri.{Tri}
 use Rattle.grid.specs.Boxes.{IsInBox}
 use Rattle.grid.specs.Determinants.{IsPositive, det_at}
 use Rattle.grid.specs.Envelopes.{triangle_at}
-use Rattle.grid.specs.Meshes.{Mesh, IsTriple, IsWellFormed, IsWithinLimits, Tiles, most_points, most_made}
+use Rattle.grid.specs.Meshes.{Mesh, IsTriple, IsWellFormed, IsWithinLimits, Tiles}
 use Rattle.grid.specs.Simplices.{IsTet}
+use Rattle.grid.specs.Limits.{most_points, most_made}
 use Rattle.mesh_types.specs.declared.cut.Cut.{Cut}
 use Rattle.mesh_types.specs.declared.outcome.Defect.{Defect}
 use Rattle.mesh_types.specs.declared.outcome.Defect.TheVariants.{Degenerate, Full, Inverted, Unresolved, Stray, Uncovered}

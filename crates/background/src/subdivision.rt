@@ -1,6 +1,6 @@
-ghost use Rattle.std.specs.Prelude.{◌≡◌, ℕ, pos, ◌+◌, ◌*◌, ◌^◌, ◌<◌, ◌≤◌, ◌≤ℤ◌, ◌∷◌, [], ◌++◌, All, length, nat_abs, IfOk};
+ghost use Rattle.std.specs.Prelude.{◌≡◌, ℕ, pos, ◌+◌, ◌*◌, ◌<◌, ◌≤◌, ◌≤ℤ◌, ◌∷◌, [], ◌++◌, All, length, nat_abs, IfOk};
 ghost use Rattle.grid.specs.Boxes.{IsInBox};
-ghost use Rattle.grid.specs.Limits.{IsCells, IsSide};
+ghost use Rattle.grid.specs.Limits.{IsCells, IsSide, largest_side};
 ghost use Rattle.grid.specs.Meshes.{IsWellFormed, IsWithinLimits, Tiles};
 ghost use Rattle.mesh_types.specs.Lattice.{point, number_at, cube, lattice_points, lattice_tets};
 ghost use Rattle.mesh_types.specs.Lattice.{lattice as lattice_of};
@@ -42,7 +42,7 @@ pub fn lattice(alloc: Global, side: i32, cells: u32) -> Result<Lists, Memory>
 /// The points of the lattice, the first axis running fastest.
 #[tactic(auto, using(crate::proofs::SoFar::so_far_steps))]
 fn points(alloc: Global, step: u32, cells: u32) -> Result<Vec<Point>, Memory>
-    requires step_in { step ≤ 262144 }
+    requires step_in { step ≤ largest_side }
     requires cells_in { cells ≤ 32 }
     ensures { IfOk result (λ v. v.items ≡ lattice_points step cells) }
 {
@@ -60,7 +60,7 @@ fn points(alloc: Global, step: u32, cells: u32) -> Result<Vec<Point>, Memory>
 
 /// The point at a place, counted in steps along each axis.
 fn point_at(step: u32, i: u32, j: u32, k: u32) -> Point
-    requires step_in { step ≤ 262144 }
+    requires step_in { step ≤ largest_side }
     requires i_in { i ≤ 32 }
     requires j_in { j ≤ 32 }
     requires k_in { k ≤ 32 }

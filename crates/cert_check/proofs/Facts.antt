@@ -16,7 +16,7 @@ use Rattle.grid.specs.declared.shapes.Tet.{Tet}
 use Rattle.grid.specs.Views.{corners_of}
 use Rattle.grid.specs.Boxes.{IsUpTo, IsInBox}
 use Rattle.grid.specs.Determinants.{origin}
-use Rattle.grid.specs.Limits.{IsSide}
+use Rattle.grid.specs.Limits.{IsSide, largest_side}
 use Rattle.msh_text.specs.declared.file_mesh.MshNode.{MshNode}
 use Rattle.msh_text.specs.Rules.{is_node}
 use Rattle.msh_text.specs.declared.file_mesh.MshTet.{MshTet}
@@ -48,40 +48,40 @@ side-nat side s = ap unsigned_abs s.is
 pub side-is : (side : ℤ) → IsSide side → side ≡ pos (unsigned_abs side)
 side-is side s = s.is ∙ ap pos (sym (side-nat side s))
 
-pub side-few : (side : ℤ) → IsSide side → unsigned_abs side ≤ 262144
-side-few side s = let most : 2 ^ s.power ≤ 2 ^ 18 = pow-le-pow_right (lit≤ tt) s.power_most in omega (arith, side-nat side s, most)
+pub side-few : (side : ℤ) → IsSide side → unsigned_abs side ≤ largest_side
+side-few side s = let most : 2 ^ s.power ≤ largest_side = pow-le-pow_right (lit≤ tt) s.power_most in omega (arith, side-nat side s, most)
 
 pub kept-side : (side : ℤ) → IsSide side → to_z w32 (of_z w32 side) ≡ pos (unsigned_abs side)
 kept-side side s =
     let is = side-is side s in
     let few = side-few side s in
-    let f : SFits w32 side = fits_within w32 (within_natural 262144 side (omega (arith, ints, is)) (omega (arith, ints, is, few))) (omega arith) in
+    let f : SFits w32 side = fits_within w32 (within_natural largest_side side (omega (arith, ints, is)) (omega (arith, ints, is, few))) (omega arith) in
     to_z-of_z f ∙ is
 
 pub kept-same : (side : ℤ) → IsSide side → to_z w32 (of_z w32 side) ≡ side
 kept-same side s = kept-side side s ∙ sym (side-is side s)
 
-pub cube-few : (n : ℕ) → n ≤ 262144 → n * n * n ≤ 18014398509481984
+pub cube-few : (n : ℕ) → n ≤ largest_side → n * n * n ≤ 18014398509481984
 cube-few n h = mul-le-mul (mul-le-mul h h) h
 
 pub cube-is : (n : ℕ) → n ^ 3 ≡ n * n * n
 cube-is n = rw (pow-suc n 2, pow-suc n 1, pow-suc n 0, pow-zero n) (omega arith)
 
-pub kept-cube : (n : ℕ) → n ≤ 262144 → to_z w128 (6 * (n * n * n)) ≡ pos (6 * (n * n * n))
+pub kept-cube : (n : ℕ) → n ≤ largest_side → to_z w128 (6 * (n * n * n)) ≡ pos (6 * (n * n * n))
 kept-cube n h = let few = cube-few n h in omega (arith, ints, few)
 
 -- ---- points in the box
-origin-in : IsInBox 262144 origin
+origin-in : IsInBox largest_side origin
 origin-in =
-    let zero_in : IsUpTo 262144 (pos 0) = record { low = omega (arith, ints); high = omega (arith, ints) } in
+    let zero_in : IsUpTo largest_side (pos 0) = record { low = omega (arith, ints); high = omega (arith, ints) } in
     record { x_in = zero_in; y_in = zero_in; z_in = zero_in }
 
-pub points-in : (shift : List ℤ) (k : ℕ) (nodes : List MshNode) → All (λ n. IsInBox 262144 (node_point shift n)) nodes → All (IsInBox 262144) (points_from shift k nodes)
-points-in shift k [] h = All-nil (IsInBox 262144)
+pub points-in : (shift : List ℤ) (k : ℕ) (nodes : List MshNode) → All (λ n. IsInBox largest_side (node_point shift n)) nodes → All (IsInBox largest_side) (points_from shift k nodes)
+points-in shift k [] h = All-nil (IsInBox largest_side)
 points-in shift k (node ∷ nodes) h =
-    All-append (IsInBox 262144) (replicate (node.number - k) origin) (node_point shift node ∷ points_from shift (max k node.number + 1) nodes)
-    (All-replicate (IsInBox 262144) (node.number - k) origin origin-in)
-    (All-cons (IsInBox 262144) (node_point shift node) (points_from shift (max k node.number + 1) nodes) (h 0 node (omega arith))
+    All-append (IsInBox largest_side) (replicate (node.number - k) origin) (node_point shift node ∷ points_from shift (max k node.number + 1) nodes)
+    (All-replicate (IsInBox largest_side) (node.number - k) origin origin-in)
+    (All-cons (IsInBox largest_side) (node_point shift node) (points_from shift (max k node.number + 1) nodes) (h 0 node (omega arith))
     (points-in shift (max k node.number + 1) nodes (λ i d lt. h (suc i) d (omega (arith, lt)))))
 
 -- the number of a node is that of a point
@@ -103,14 +103,14 @@ corners-in corners shift nodes xs h k d lt j e b = let in_range = number-in shif
 pub both : {A B : Type 0} (P : A → B → Type 0) (a x : A) (b y : B) → a ≡ x → b ≡ y → P a b → P x y
 both P a x b y e f h = subst (λ z. P x z) f (subst (λ z. P z b) e h)
 
-pub points-all : (shift : List ℤ) (given : List MshNode) (points : List Point) → points ≡ points_from shift 0 given → ((i : ℕ) → i < length given → IsInBox 262144 (node_point shift (node_at given i))) → All (IsInBox 262144) points
+pub points-all : (shift : List ℤ) (given : List MshNode) (points : List Point) → points ≡ points_from shift 0 given → ((i : ℕ) → i < length given → IsInBox largest_side (node_point shift (node_at given i))) → All (IsInBox largest_side) points
 points-all shift given points e h =
-    subst (All (IsInBox 262144)) (sym e) (points-in shift 0 given (All-from_places (λ n. IsInBox 262144 (node_point shift n)) given (record { number = 0; at = [] }) h))
+    subst (All (IsInBox largest_side)) (sym e) (points-in shift 0 given (All-from_places (λ n. IsInBox largest_side (node_point shift n)) given (record { number = 0; at = [] }) h))
 
 -- nodes in the box of the side lie in the largest box
-pub nodes-in : (l : ℕ) (shift : List ℤ) (given nodes : List MshNode) → given ≡ nodes → l ≤ 262144 → ((i : ℕ) → i < length nodes → IsInBox l (node_point shift (node_at nodes i)))
-    → (i : ℕ) → i < length given → IsInBox 262144 (node_point shift (node_at given i))
-nodes-in l shift given nodes e few h = subst (λ ns. (i : ℕ) → i < length ns → IsInBox 262144 (node_point shift (node_at ns i))) (sym e) (λ i lt. IsInBox-wider l 262144 _ few (h i lt))
+pub nodes-in : (l : ℕ) (shift : List ℤ) (given nodes : List MshNode) → given ≡ nodes → l ≤ largest_side → ((i : ℕ) → i < length nodes → IsInBox l (node_point shift (node_at nodes i)))
+    → (i : ℕ) → i < length given → IsInBox largest_side (node_point shift (node_at given i))
+nodes-in l shift given nodes e few h = subst (λ ns. (i : ℕ) → i < length ns → IsInBox largest_side (node_point shift (node_at ns i))) (sym e) (λ i lt. IsInBox-wider l largest_side _ few (h i lt))
 
 pub corners-all : {X : Type 0} (corners : X → List ℕ) (shift : List ℤ) (nodes : List MshNode) (points : List Point) (xs ys : List X) → points ≡ points_from shift 0 nodes → ys ≡ xs → All (λ x. All (λ c. is_node nodes c ≡ true) (corners x)) xs → All (λ x. All (λ c. c < length points) (corners x)) ys
 corners-all corners shift nodes points xs ys e f h =

@@ -2,6 +2,7 @@
 use Rattle.std.proofs.Common.{ℕ, suc, ◌+◌, ◌^◌, ◌≤◌, List, [], ◌∷◌, length, ap, subst, arith, ℤ, Option}
 use Rattle.std.specs.Prelude.{codes}
 use Rattle.std.proofs.lemmas.List.{length-append}
+use Rattle.grid.specs.Limits.{most_epsilon, most_input}
 use Rattle.lines.specs.Forms.{Reads}
 use Rattle.lines.specs.Fields.{Between}
 use Rattle.report_text.specs.declared.kinds.PartKind.{PartKind}
@@ -44,9 +45,9 @@ IsReport-rules bytes rest r h =
     let tries = outcomes.3 in
     let second = tries.3 in
     let faces = second.3 in
-    let epsilon_is = named_is (codes "epsilon ") (Between 1 4095) epsilon.0 _ _ epsilon.2 in
-    let triangles_is = named_is (codes "triangles ") (Between 0 (2 ^ 20)) triangles.0 _ _ triangles.2 in
-    let lines = repeat_keeps (more_outcomes box.0.1 shift.0) (λ n os. length os + n ≤ 2 ^ 20) (outcomes_grow box.0.1 shift.0) triangles.0 [] outcomes.0 _ _ (omega (arith, triangles_is.1)) outcomes.2 in
+    let epsilon_is = named_is (codes "epsilon ") (Between 1 most_epsilon) epsilon.0 _ _ epsilon.2 in
+    let triangles_is = named_is (codes "triangles ") (Between 0 most_input) triangles.0 _ _ triangles.2 in
+    let lines = repeat_keeps (more_outcomes box.0.1 shift.0) (λ n os. length os + n ≤ most_input) (outcomes_grow box.0.1 shift.0) triangles.0 [] outcomes.0 _ _ (omega (arith, triangles_is.1)) outcomes.2 in
     let few = second_few triangles.0 box.0.1 shift.0 _ second.0 _ _ second.2 in
     let coverings = repeat_keeps more_faces (λ n fs. length fs + n ≤ 2 ^ 24) faces_grow second.0.1 [] faces.0 _ _ (omega (arith, few)) faces.2 in
     subst IsReport faces.3.0 (record {

@@ -2,7 +2,7 @@
 use Rattle.std.specs.Prelude.{◌≡◌, ◌+◌, ◌*◌, ◌^◌, ◌≤◌, true, unsigned_abs, map, length, All}
 use Rattle.int_algebra.specs.Within.{IsWithin}
 use Rattle.grid.specs.Boxes.{IsTriInBox}
-use Rattle.grid.specs.Limits.{IsSide}
+use Rattle.grid.specs.Limits.{IsSide, largest_side, most_epsilon, most_input, most_points}
 use Rattle.grid.specs.Simplices.{Rises}
 use Rattle.msh_text.specs.declared.file_mesh.MshNode.{MshNode}
 use Rattle.msh_text.specs.declared.file_mesh.MshMesh.{MshMesh}
@@ -14,13 +14,13 @@ use Rattle.soup.specs.declared.raw.Soup.{Soup}
 pub record IsPlaced (soup : Soup) : Type 0 where
   pub side : IsSide soup.side
   pub shift : All (λ s. unsigned_abs s ≤ 2 * 10 ^ 9) soup.shift
-  pub few : length soup.triangles ≤ 2 ^ 20
-  pub in_box : All (IsTriInBox (2 ^ 18)) soup.triangles
+  pub few : length soup.triangles ≤ most_input
+  pub in_box : All (IsTriInBox largest_side) soup.triangles
 
 -- ---- what the judgement uses of the rules of the texts
 -- a node within the limits
 pub record IsNode (node : MshNode) : Type 0 where
-  pub high : node.number ≤ 2 ^ 20
+  pub high : node.number ≤ most_points
   pub near : All (IsWithin (2 * 10 ^ 9)) node.at
 
 -- nodes within the limits whose numbers rise, corners that are nodes, and not too many elements
@@ -33,6 +33,6 @@ pub record IsMshMesh (m : MshMesh) : Type 0 where
 
 -- an epsilon within its limit, and not too many lines
 pub record IsReport (r : Report) : Type 0 where
-  pub epsilon : r.epsilon ≤ 4095
-  pub few_outcomes : length r.outcomes ≤ 2 ^ 20
+  pub epsilon : r.epsilon ≤ most_epsilon
+  pub few_outcomes : length r.outcomes ≤ most_input
   pub few_faces : length r.faces ≤ 2 ^ 24

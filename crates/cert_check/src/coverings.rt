@@ -1,5 +1,6 @@
 //! Whether the report covers the tracked triangles.
 
+ghost use Rattle.grid.specs.Limits.{largest_side, most_epsilon};
 ghost use Rattle.std.specs.Prelude.{◌≡◌, ◌↔◌, ℕ, ◌+◌, ◌^◌, ◌<◌, ◌≤◌, max, length, All, IsTrue};
 ghost use Rattle.grid.specs.Boxes.{IsInBox, IsTriInBox};
 ghost use Rattle.cert_check.specs.Faults.{IsCovered, IsCoveringOfFace, tri_of};
@@ -26,9 +27,9 @@ fn is_covering_of(
     face: &Face,
     covering: &Covering,
 ) -> bool
-    requires triangles { All (IsTriInBox (2 ^ 18)) triangles.now }
-    requires e { e ≤ 4095 }
-    requires points { All (IsInBox (2 ^ 18)) points.now }
+    requires triangles { All (IsTriInBox largest_side) triangles.now }
+    requires e { e ≤ most_epsilon }
+    requires points { All (IsInBox largest_side) points.now }
     requires face { All (λ c. c < length points.now) face.now.0 }
     ensures { IsTrue result ↔ IsCoveringOfFace triangles.now e points.now face.now covering.now }
 {
@@ -47,9 +48,9 @@ fn is_covered(
     faces: &[Covering],
     i: usize,
 ) -> bool
-    requires triangles { All (IsTriInBox (2 ^ 18)) triangles.now }
-    requires e { e ≤ 4095 }
-    requires points { All (IsInBox (2 ^ 18)) points.now }
+    requires triangles { All (IsTriInBox largest_side) triangles.now }
+    requires e { e ≤ most_epsilon }
+    requires points { All (IsInBox largest_side) points.now }
     requires tracked { All (λ f. All (λ c. c < length points.now) f.0) tracked.now }
     ensures { IsTrue result ↔ IsCovered triangles.now e points.now tracked.now faces.now i }
 {
@@ -67,9 +68,9 @@ pub fn first_not_covered(
     tracked: &[Face],
     faces: &[Covering],
 ) -> Option<u32>
-    requires triangles { All (IsTriInBox (2 ^ 18)) triangles.now }
-    requires e { e ≤ 4095 }
-    requires points { All (IsInBox (2 ^ 18)) points.now }
+    requires triangles { All (IsTriInBox largest_side) triangles.now }
+    requires e { e ≤ most_epsilon }
+    requires points { All (IsInBox largest_side) points.now }
     requires tracked { All (λ f. All (λ c. c < length points.now) f.0) tracked.now }
     requires few { max (length tracked.now) (length faces.now) ≤ 2 ^ 24 }
     ensures { IsFirstOrNone (max (length tracked.now) (length faces.now)) (IsCovered triangles.now e points.now tracked.now faces.now) (λ i. i + 1) result }

@@ -2,7 +2,7 @@
 
 ghost use Rattle.std.specs.Prelude.{◌≡◌, ◌*◌, ◌^◌, ℕ, Option, pos, unsigned_abs, length, All, Ok, IfOk};
 ghost use Rattle.grid.specs.Boxes.{IsInBox};
-ghost use Rattle.grid.specs.Limits.{IsSide};
+ghost use Rattle.grid.specs.Limits.{IsSide, largest_side};
 ghost use Rattle.grid.specs.Views.{corners_of};
 ghost use Rattle.msh_text.specs.Rules.{MshRules};
 ghost use Rattle.report_text.specs.Answers.{ReportRules};
@@ -70,7 +70,7 @@ fn fault_of_tets(
     requires soup { IsPlaced soup.now }
     requires mesh { IsMshMesh mesh.now }
     requires points { points.now ≡ points_from soup.now.shift 0 mesh.now.nodes }
-    requires in_box { All (IsInBox (2 ^ 18)) points.now }
+    requires in_box { All (IsInBox largest_side) points.now }
     requires tets { corners_of tets.now ≡ file_tets mesh.now.tets }
     ensures { IfOk result (λ found. (report : Report) (digits : Option ℕ) → GoesOn (case_of soup.now mesh.now report digits) 2 6 found) }
 {
@@ -104,7 +104,7 @@ fn fault_of_triangles(
     requires mesh { IsMshMesh mesh.now }
     requires report { IsReport report.now }
     requires points { points.now ≡ points_from soup.now.shift 0 mesh.now.nodes }
-    requires in_box { All (IsInBox (2 ^ 18)) points.now }
+    requires in_box { All (IsInBox largest_side) points.now }
     requires tets { corners_of tets.now ≡ file_tets mesh.now.tets }
     ensures { IfOk result (λ found. (digits : Option ℕ) → GoesOn (case_of soup.now mesh.now report.now digits) 6 10 found) }
 {

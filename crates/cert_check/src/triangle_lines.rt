@@ -1,6 +1,7 @@
 //! Whether the report has the lines of the triangles.
 
-ghost use Rattle.std.specs.Prelude.{◌≡◌, ◌↔◌, ◌^◌, ◌≤◌, length, map, IsTrue};
+ghost use Rattle.grid.specs.Limits.{most_input};
+ghost use Rattle.std.specs.Prelude.{◌≡◌, ◌↔◌, ◌≤◌, length, map, IsTrue};
 ghost use Rattle.mesh_types.specs.Turns.{is_rolled_back, rolled_back};
 ghost use Rattle.cert_check.specs.Faults.{AreLines};
 
@@ -20,7 +21,7 @@ fn is_rolled_back(outcome: &Outcome) -> bool
 
 /// Whether the triangles of the second part are those that were rolled back, in rising order.
 fn are_rolled_back(again: &[Again], outcomes: &[Outcome]) -> bool
-    requires few { length outcomes.now ≤ 2 ^ 20 }
+    requires few { length outcomes.now ≤ most_input }
     ensures { IsTrue result ↔ (map (λ a. a.triangle) again.now ≡ rolled_back 0 outcomes.now) }
 {
     let mut met = 0;
@@ -42,7 +43,7 @@ fn are_rolled_back(again: &[Again], outcomes: &[Outcome]) -> bool
 /// Whether there is a line for each triangle, and in the second part one for each that was rolled
 /// back.
 pub fn are_lines(triangles: &[Tri], report: &Report) -> bool
-    requires few { length report.now.outcomes ≤ 2 ^ 20 }
+    requires few { length report.now.outcomes ≤ most_input }
     ensures { IsTrue result ↔ AreLines triangles.now report.now }
 {
     let outcomes = report.outcomes.as_slice();

@@ -3,7 +3,7 @@ use Rattle.std.proofs.Common.{◌≡◌, ℕ, ◌≤◌, ◌^◌, true, List, re
 use Rattle.std.specs.Prelude.{codes}
 use Rattle.std.proofs.lemmas.Bool.{true≢false, eqb-true}
 use Rattle.tet_words.proofs.Ranges.{first_or}
-use Rattle.grid.specs.Limits.{IsCells}
+use Rattle.grid.specs.Limits.{IsCells, most_epsilon}
 use Rattle.lines.specs.Forms.{Reads}
 use Rattle.lines.specs.Fields.{Between}
 use Rattle.report_text.specs.declared.report.Report.{Report}
@@ -27,7 +27,7 @@ cells_of n =
 -- ---- what the rules say
 pub record HasNumbers (r : Report) : Type 0 where
   pub epsilon_least : 1 ≤ r.epsilon
-  pub epsilon_most : r.epsilon ≤ 4095
+  pub epsilon_most : r.epsilon ≤ most_epsilon
   pub cells : IsCells r.cells
 
 pub numbers-of : (r : Report) (bytes rest : List ℕ) → Reads report_rules bytes r rest → HasNumbers r
@@ -35,6 +35,6 @@ unfolding Reads report_rules
 numbers-of r bytes rest h =
     let epsilon = h.3 in
     let cells = epsilon.3 in
-    let epsilon_is = named_is (codes "epsilon ") (Between 1 4095) epsilon.0 _ _ epsilon.2 in
+    let epsilon_is = named_is (codes "epsilon ") (Between 1 most_epsilon) epsilon.0 _ _ epsilon.2 in
     let cells_is = named_is (codes "cells ") rules.IsCells cells.0 _ _ cells.2 in
     subst HasNumbers cells.3.3.3.3.3.3.3.3.3.0 (record { epsilon_least = epsilon_is.0; epsilon_most = epsilon_is.1; cells = cells_of cells.0 cells_is.1 })

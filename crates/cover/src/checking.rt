@@ -1,3 +1,4 @@
+ghost use Rattle.grid.specs.Limits.{largest_side, most_epsilon};
 ghost use Rattle.std.specs.Prelude.{◌≡◌, ◌↔◌, ◌≤◌, ◌+◌, ◌^◌, All, IsTrue};
 ghost use Rattle.grid.specs.Boxes.{IsTriInBox};
 ghost use Rattle.mesh_types.specs.Certificates.{most_levels, IsFaceNear, Covers};
@@ -9,10 +10,10 @@ use tri_distance::near;
 
 /// Whether all corners of a face at the scale 2^k are near to the triangle of that number.
 fn is_leaf(triangles: &[Tri], face: &Tri, t: u32, e: u32, k: u32) -> bool
-    requires triangles_in { All (IsTriInBox (2 ^ 18)) triangles.now }
+    requires triangles_in { All (IsTriInBox largest_side) triangles.now }
     requires k_in { k ≤ LEVELS }
     requires face_in { IsTriInBox (2 ^ (18 + k)) face.now }
-    requires e_in { e ≤ 4095 }
+    requires e_in { e ≤ most_epsilon }
     ensures { IsTrue result ↔ IsFaceNear triangles.now e k face.now t }
 {
     let t = t as usize;
@@ -32,10 +33,10 @@ fn is_leaf(triangles: &[Tri], face: &Tri, t: u32, e: u32, k: u32) -> bool
 
 /// Whether a certificate of at most that many levels is one of a face at the scale 2^k.
 fn covers(triangles: &[Tri], face: &Tri, cert: &Cert, e: u32, levels: u32, k: u32) -> bool
-    requires triangles_in { All (IsTriInBox (2 ^ 18)) triangles.now }
+    requires triangles_in { All (IsTriInBox largest_side) triangles.now }
     requires levels_in { levels + k ≤ LEVELS }
     requires face_in { IsTriInBox (2 ^ (18 + k)) face.now }
-    requires e_in { e ≤ 4095 }
+    requires e_in { e ≤ most_epsilon }
     ensures { IsTrue result ↔ Covers triangles.now e levels k face.now cert.now }
 {
     match cert {
@@ -63,9 +64,9 @@ fn covers(triangles: &[Tri], face: &Tri, cert: &Cert, e: u32, levels: u32, k: u3
 /// Whether `cert` is a certificate of a face in the envelope of the triangles for epsilon e. It need
 /// not be the least one. A leaf beyond the list is no certificate. It takes no memory.
 pub fn check(triangles: &[Tri], face: &Tri, cert: &Cert, e: u32) -> bool
-    requires triangles_in { All (IsTriInBox (2 ^ 18)) triangles.now }
-    requires face_in { IsTriInBox (2 ^ 18) face.now }
-    requires e_in { e ≤ 4095 }
+    requires triangles_in { All (IsTriInBox largest_side) triangles.now }
+    requires face_in { IsTriInBox largest_side face.now }
+    requires e_in { e ≤ most_epsilon }
     ensures { IsTrue result ↔ Covers triangles.now e most_levels 0 face.now cert.now }
 {
     covers(triangles, face, cert, e, LEVELS, 0)

@@ -1,3 +1,4 @@
+ghost use Rattle.grid.specs.Limits.{largest_side, most_epsilon};
 ghost use Rattle.std.specs.Prelude.{◌≡◌, ◌↔◌, ◌≤◌, ◌+◌, ◌^◌, IsTrue, IfOk};
 ghost use Rattle.grid.specs.Boxes.{IsTriInBox};
 ghost use Rattle.mesh_types.specs.Certificates.{IsCov, HasCertificate};
@@ -21,7 +22,7 @@ fn find_at(
 ) -> Result<Option<Cert>, Memory>
     requires levels_in { levels + k ≤ LEVELS }
     requires face_in { IsTriInBox (2 ^ (18 + k)) face.now }
-    requires e_in { e ≤ 4095 }
+    requires e_in { e ≤ most_epsilon }
     ensures { IfOk result (IsCovAt env.now e levels k face.now) }
 {
     let [a, b, c] = face.0;
@@ -51,7 +52,7 @@ fn find_at(
 fn covered_at(env: &Envelope, face: &Tri, e: u32, levels: u32, k: u32) -> bool
     requires levels_in { levels + k ≤ LEVELS }
     requires face_in { IsTriInBox (2 ^ (18 + k)) face.now }
-    requires e_in { e ≤ 4095 }
+    requires e_in { e ≤ most_epsilon }
     ensures { IsTrue result ↔ HasCertificateAt env.now e levels k face.now }
 {
     let [a, b, c] = face.0;
@@ -78,8 +79,8 @@ fn covered_at(env: &Envelope, face: &Tri, e: u32, levels: u32, k: u32) -> bool
 /// split only where there is no triangle. None exactly where the face has no certificate. It takes
 /// memory for the certificate alone.
 pub fn find(alloc: Global, env: &Envelope, face: &Tri, e: u32) -> Result<Option<Cert>, Memory>
-    requires face_in { IsTriInBox (2 ^ 18) face.now }
-    requires e_in { e ≤ 4095 }
+    requires face_in { IsTriInBox largest_side face.now }
+    requires e_in { e ≤ most_epsilon }
     ensures { IfOk result (IsCov env.now e face.now) }
 {
     find_at(alloc, env, face, e, LEVELS, 0)
@@ -87,8 +88,8 @@ pub fn find(alloc: Global, env: &Envelope, face: &Tri, e: u32) -> Result<Option<
 
 /// Whether a face has a certificate in the envelope for epsilon e. It takes no memory.
 pub fn covered(env: &Envelope, face: &Tri, e: u32) -> bool
-    requires face_in { IsTriInBox (2 ^ 18) face.now }
-    requires e_in { e ≤ 4095 }
+    requires face_in { IsTriInBox largest_side face.now }
+    requires e_in { e ≤ most_epsilon }
     ensures { IsTrue result ↔ HasCertificate env.now e face.now }
 {
     covered_at(env, face, e, LEVELS, 0)

@@ -1,5 +1,5 @@
 -- Tetrahedra far from a triangle have no section faces.
-use Rattle.std.proofs.Common.{◌≡◌, ℕ, zero, suc, ℤ, ◌^◌, ◌≤◌, ◌≤ℤ◌, Bool, true, false, not, ◌&&◌, ◌||◌, int_le, List, [], ◌∷◌, map, length, All, refl, sym, ap, ◌∙◌, subst, inl, inr, arith}
+use Rattle.std.proofs.Common.{◌≡◌, ℕ, zero, suc, ℤ, ◌≤◌, ◌≤ℤ◌, Bool, true, false, not, ◌&&◌, ◌||◌, int_le, List, [], ◌∷◌, map, length, All, refl, sym, ap, ◌∙◌, subst, inl, inr, arith}
 use Rattle.std.specs.List.{filter, list_any, list_all, AllByRecursion as Each}
 use Rattle.std.proofs.lemmas.Bool.{cases_lt, or_cases, or_left, or_right, true≢false, false_from_ne_true}
 use Rattle.std.proofs.lemmas.Int.{ints}
@@ -9,6 +9,7 @@ use Rattle.grid.specs.Boxes.{IsInBox}
 use Rattle.grid.specs.Determinants.{point_at, origin}
 use Rattle.grid.specs.Planes.{Plane, side_plane}
 use Rattle.grid.specs.Simplices.{faces, rising}
+use Rattle.grid.specs.Limits.{largest_side}
 use Rattle.mesh_types.specs.CuttingRule.{is_in_section, lies_above, lies_below, lies_on, splits, section_plane, three_sides}
 use Rattle.mesh_types.specs.Phases.{points_of, is_section_face}
 use Rattle.cutting_rule.specs.Bounds.{overlaps, is_met}
@@ -114,11 +115,11 @@ touched points t x c there e =
     (within 2 (and_left _ _ last))
 
 -- a tetrahedron that a triangle does not touch
-pub far-sections : (points : List Point) (t : Tri) (lo hi : Point) (x : List ℕ) → All (IsInBox (2 ^ 18)) points → IsReach t lo hi → (is_met lo hi (points_of points x) && touches t (points_of points x)) ≡ false → section_in points t x ≡ []
+pub far-sections : (points : List Point) (t : Tri) (lo hi : Point) (x : List ℕ) → All (IsInBox largest_side) points → IsReach t lo hi → (is_met lo hi (points_of points x) && touches t (points_of points x)) ≡ false → section_in points t x ≡ []
 unfolding section_in
 far-sections points t lo hi x inside reach far = ap (map rising) (filter-none (is_section_face points t) (Begins x) (λ f h.
     false_from_ne_true (is_section_face points t f) (λ e.
     let head : is_in_section t (point_at points h.first) ≡ true = and_left _ (list_all (is_in_section t) (points_of points h.others)) (subst (λ g. is_section_face points t g ≡ true) h.is e) in
-    let met : is_met lo hi (points_of points x) ≡ true = meets-point points x h.first h.there lo hi (reach.section (point_at points h.first) (point-in (2 ^ 18) points inside h.first) head) in
+    let met : is_met lo hi (points_of points x) ≡ true = meets-point points x h.first h.there lo hi (reach.section (point_at points h.first) (point-in largest_side points inside h.first) head) in
     true≢false (sym (and_both _ _ met (touched points t x h.first h.there head)) ∙ far)))
     (faces x) (faces-begin x))

@@ -3,10 +3,11 @@ ghost use Rattle.cutter.specs.Found.{AreTouching};
 ghost use Rattle.cutter.specs.First.{IsFirstSlot, IsFirstWanted, earlier, has_one_of, head, is_open};
 ghost use Rattle.cutting_rule.specs.Edges.{numbers_of};
 ghost use Rattle.grid.specs.Boxes.{IsTriInBox};
+ghost use Rattle.grid.specs.Limits.{largest_side};
 ghost use Rattle.grid.specs.Planes.{IsDegenerate};
 ghost use Rattle.mesh_store.specs.Parts.{mesh_in};
 ghost use Rattle.mesh_types.specs.Phases.{wanted};
-ghost use Rattle.std.specs.Prelude.{IfOk, [], ◌<◌, ◌^◌, ◌∷◌, ◌≡◌};
+ghost use Rattle.std.specs.Prelude.{IfOk, [], ◌<◌, ◌∷◌, ◌≡◌};
 
 use crate::touching::{Touching, find_touching};
 use crate::wanted::{corner_points, near_wanted};
@@ -98,7 +99,7 @@ fn first_slot(
 /// The corners, in their places, of the first tetrahedron that has an edge which some phase of the
 /// insertion of a triangle wants. None exactly where no phase wants an edge.
 pub fn first_wanted(alloc: Global, store: &Store, tri: &Tri) -> Result<Option<[Point; 4]>, Memory>
-    requires tri_in { IsTriInBox (2 ^ 18) tri.now }
+    requires tri_in { IsTriInBox largest_side tri.now }
     requires some_area { ¬ IsDegenerate tri.now }
     ensures { IfOk result (λ found. IsFirstWanted (mesh_in store.now.parts) tri.now found) }
 {

@@ -3,6 +3,7 @@ ghost use Rattle.cutter.specs.Found.{AreTouching};
 ghost use Rattle.cutting_rule.specs.Edges.{IsSplitEdge, numbers_of};
 ghost use Rattle.grid.specs.Boxes.{IsInBox, IsTriInBox};
 ghost use Rattle.grid.specs.Determinants.{point_at};
+ghost use Rattle.grid.specs.Limits.{largest_side};
 ghost use Rattle.grid.specs.Meshes.{IsWithinLimits};
 ghost use Rattle.grid.specs.Planes.{IsDegenerate};
 ghost use Rattle.mesh_store.specs.Changes.{IsGrown, IsSameTransaction};
@@ -10,7 +11,7 @@ ghost use Rattle.mesh_store.specs.Parts.{mesh_in, rolled_back};
 ghost use Rattle.mesh_store.specs.Sound.{IsSound};
 ghost use Rattle.mesh_types.specs.CuttingRule.{splits};
 ghost use Rattle.mesh_types.specs.Phases.{cut_at, phase, wanted_cuts};
-ghost use Rattle.std.specs.Prelude.{All, Err, IfOk, IsSome, OnErr, OnOk, [], length, map, true, ◌+◌, ◌<◌, ◌^◌, ◌∷◌, ◌≡◌};
+ghost use Rattle.std.specs.Prelude.{All, Err, IfOk, IsSome, OnErr, OnOk, [], length, map, true, ◌+◌, ◌<◌, ◌∷◌, ◌≡◌};
 
 use crate::touching::{Touching, find_touching, touching_after};
 use crate::wanted::near_wanted;
@@ -26,7 +27,7 @@ use tet_slots::Slots;
 fn cut_of(plane: &Plane, slots: &Slots, u: u32, v: u32) -> Cut
     requires u_in { u < length slots.now.points }
     requires v_in { v < length slots.now.points }
-    requires in_box { All (IsInBox (2 ^ 18)) slots.now.points }
+    requires in_box { All (IsInBox largest_side) slots.now.points }
     requires apart { splits plane.now (point_at slots.now.points u ∷ point_at slots.now.points v ∷ []) ≡ true }
     ensures { result ≡ cut_at slots.now.points plane.now (u ∷ v ∷ []) }
 {
@@ -34,7 +35,7 @@ fn cut_of(plane: &Plane, slots: &Slots, u: u32, v: u32) -> Cut
 }
 
 fn cuts_of(alloc: Global, plane: &Plane, slots: &Slots, edges: &[Edge]) -> Result<Vec<Cut>, Memory>
-    requires in_box { All (IsInBox (2 ^ 18)) slots.now.points }
+    requires in_box { All (IsInBox largest_side) slots.now.points }
     requires apart { All (λ e. IsSplitEdge slots.now.points plane.now e.0) edges.now }
     ensures { IfOk result (λ v. v.items ≡ map (cut_at slots.now.points plane.now) (numbers_of edges.now)) }
 {
@@ -108,7 +109,7 @@ fn cut_wanted(
 /// want of memory.
 pub fn phase(alloc: Global, store: &mut Store, tri: &Tri, i: u32) -> Result<u32, StoreIssue>
     requires open { IsSome store.old.at_begin }
-    requires tri_in { IsTriInBox (2 ^ 18) tri.now }
+    requires tri_in { IsTriInBox largest_side tri.now }
     requires some_area { ¬ IsDegenerate tri.now }
     requires index { i < 4 }
     ensures mesh { OnOk result (mesh_in store.new.parts ≡ phase (mesh_in store.old.parts) tri.now i) }

@@ -2,12 +2,13 @@
 ghost use Rattle.cutter.specs.Found.{AreTouching};
 ghost use Rattle.cutting_rule.specs.Section.{section_in};
 ghost use Rattle.grid.specs.Boxes.{IsInBox, IsTriInBox};
+ghost use Rattle.grid.specs.Limits.{largest_side};
 ghost use Rattle.grid.specs.Planes.{IsDegenerate};
 ghost use Rattle.grid.specs.Views.{triples_of};
 ghost use Rattle.mesh_store.specs.Parts.{live_tets, mesh_in};
 ghost use Rattle.mesh_types.specs.Phases.{section};
 ghost use Rattle.std.specs.List.{flat_map};
-ghost use Rattle.std.specs.Prelude.{All, IfOk, ◌^◌, ◌≡◌};
+ghost use Rattle.std.specs.Prelude.{All, IfOk, ◌≡◌};
 
 use crate::touching::{Touching, find_touching};
 use crate::wanted::corner_points;
@@ -25,7 +26,7 @@ fn section_faces(
     slots: &Slots,
     near: &Touching,
 ) -> Result<Vec<Face>, Memory>
-    requires in_box { All (IsInBox (2 ^ 18)) slots.now.points }
+    requires in_box { All (IsInBox largest_side) slots.now.points }
     requires near { AreTouching slots.now.points slots.now.slots triangle.now near.now.reach.lo near.now.reach.hi near.now.slots.items }
     ensures { IfOk result (λ v. triples_of v.items ≡ flat_map (section_in slots.now.points triangle.now) (live_tets slots.now.slots)) }
 {
@@ -41,7 +42,7 @@ fn section_faces(
 /// The faces whose corners are all on the triangle's plane and beyond none of its sides, as rising
 /// triples in rising order.
 pub fn section(alloc: Global, store: &Store, tri: &Tri) -> Result<Vec<Face>, Memory>
-    requires tri_in { IsTriInBox (2 ^ 18) tri.now }
+    requires tri_in { IsTriInBox largest_side tri.now }
     requires some_area { ¬ IsDegenerate tri.now }
     ensures { IfOk result (λ v. triples_of v.items ≡ section (mesh_in store.now.parts) tri.now) }
 {

@@ -2,9 +2,10 @@
 ghost use Rattle.cutter.specs.Found.{AreTouching, is_touching, picked, touched_at};
 ghost use Rattle.cutting_rule.specs.Bounds.{is_met};
 ghost use Rattle.grid.specs.Boxes.{IsInBox};
+ghost use Rattle.grid.specs.Limits.{largest_side};
 ghost use Rattle.mesh_types.specs.Phases.{points_of};
 ghost use Rattle.std.specs.List.{filter};
-ghost use Rattle.std.specs.Prelude.{All, IfOk, OnOk, drop, length, map, ◌&&◌, ◌++◌, ◌<◌, ◌^◌, ◌≡◌, ◌≤◌};
+ghost use Rattle.std.specs.Prelude.{All, IfOk, OnOk, drop, length, map, ◌&&◌, ◌++◌, ◌<◌, ◌≡◌, ◌≤◌};
 ghost use Rattle.tet_slots.specs.Searches.{numbers_of};
 ghost use Rattle.tet_slots.specs.Slots.{slot_at};
 
@@ -35,7 +36,7 @@ pub fn find_touching(
     triangle: &CuttingTriangle,
     slots: &Slots,
 ) -> Result<Touching, Memory>
-    requires { All (IsInBox (2 ^ 18)) slots.now.points }
+    requires { All (IsInBox largest_side) slots.now.points }
     ensures { IfOk result (λ found. AreTouching slots.now.points slots.now.slots triangle.now found.reach.lo found.reach.hi found.slots.items) }
 {
     let reach = triangle.section_bounds();
@@ -55,7 +56,7 @@ fn push_if_touched(
     slot: u32,
     into: &mut Vec<Touched>,
 ) -> Result<(), Memory>
-    requires in_box { All (IsInBox (2 ^ 18)) slots.now.points }
+    requires in_box { All (IsInBox largest_side) slots.now.points }
     requires there { slot < length slots.now.slots }
     ensures { OnOk result (into.new.items ≡ into.old.items ++ picked slots.now.points slots.now.slots triangle.now slot) }
 {
@@ -102,7 +103,7 @@ fn push_made(
     first: u32,
     into: &mut Vec<Touched>,
 ) -> Result<(), Memory>
-    requires in_box { All (IsInBox (2 ^ 18)) slots.now.points }
+    requires in_box { All (IsInBox largest_side) slots.now.points }
     requires first_in { first ≤ length slots.now.slots }
     ensures { OnOk result (into.new.items ≡ into.old.items ++ map (touched_at slots.now.points slots.now.slots triangle.now) (numbers_of (is_touching slots.now.points triangle.now reach.lo reach.hi) first (drop first slots.now.slots))) }
 {
@@ -124,7 +125,7 @@ pub(crate) fn touching_after(
     slots: &Slots,
     first: u32,
 ) -> Result<Vec<Touched>, Memory>
-    requires in_box { All (IsInBox (2 ^ 18)) slots.now.points }
+    requires in_box { All (IsInBox largest_side) slots.now.points }
     requires first_in { first ≤ length slots.now.slots }
     requires there { All (λ e. e.slot < length slots.now.slots) before.now }
     ensures { IfOk result (λ v. v.items ≡ filter (λ e. (slot_at slots.now.slots e.slot).live) before.now ++ map (touched_at slots.now.points slots.now.slots triangle.now) (numbers_of (is_touching slots.now.points triangle.now reach.lo reach.hi) first (drop first slots.now.slots))) }

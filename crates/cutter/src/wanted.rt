@@ -2,12 +2,13 @@
 ghost use Rattle.cutter.specs.Found.{AreTouching, touched_at};
 ghost use Rattle.cutting_rule.specs.Edges.{numbers_of};
 ghost use Rattle.grid.specs.Boxes.{IsInBox};
+ghost use Rattle.grid.specs.Limits.{largest_side};
 ghost use Rattle.grid.specs.Simplices.{IsTet};
 ghost use Rattle.mesh_store.specs.Parts.{live_tets};
 ghost use Rattle.mesh_types.specs.Phases.{points_of, wanted_in};
 ghost use Rattle.tet_slots.specs.Slots.{slot_at};
 ghost use Rattle.std.specs.List.{flat_map};
-ghost use Rattle.std.specs.Prelude.{All, IfOk, OnOk, length, ◌++◌, ◌<◌, ◌^◌, ◌≡◌};
+ghost use Rattle.std.specs.Prelude.{All, IfOk, OnOk, length, ◌++◌, ◌<◌, ◌≡◌};
 
 use crate::touching::{Touched, Touching};
 use cutting_rule::{CuttingTriangle, Edge, push_wanted_of};
@@ -39,7 +40,7 @@ pub(crate) fn near_wanted(
     near: &Touching,
 ) -> Result<Vec<Edge>, Memory>
     requires index { i < 4 }
-    requires in_box { All (IsInBox (2 ^ 18)) slots.now.points }
+    requires in_box { All (IsInBox largest_side) slots.now.points }
     requires near { AreTouching slots.now.points slots.now.slots triangle.now near.now.reach.lo near.now.reach.hi near.now.slots.items }
     ensures { IfOk result (λ v. numbers_of v.items ≡ flat_map (wanted_in slots.now.points triangle.now i) (live_tets slots.now.slots)) }
 {
@@ -59,7 +60,7 @@ fn push_wanted_at(
     into: &mut Vec<Edge>,
 ) -> Result<(), Memory>
     requires index { i < 4 }
-    requires in_box { All (IsInBox (2 ^ 18)) slots.now.points }
+    requires in_box { All (IsInBox largest_side) slots.now.points }
     requires there { touched.slot < length slots.now.slots }
     requires touched { touched ≡ touched_at slots.now.points slots.now.slots triangle.now touched.slot }
     ensures { OnOk result (numbers_of into.new.items ≡ numbers_of into.old.items ++ wanted_in slots.now.points triangle.now i (slot_at slots.now.slots touched.slot).tet.0) }

@@ -1,9 +1,10 @@
 -- One coordinate of a point of the section.
-use Rattle.std.proofs.Common.{◌≡◌, ℕ, ◌+◌, ◌^◌, ◌≤◌, [], ◌∷◌, ℤ, pos, ◌+ℤ◌, ◌-ℤ◌, ◌*ℤ◌, ◌≤ℤ◌, ◌<ℤ◌, refl, arith}
+use Rattle.std.proofs.Common.{◌≡◌, ℕ, ◌+◌, ◌≤◌, [], ◌∷◌, ℤ, pos, ◌+ℤ◌, ◌-ℤ◌, ◌*ℤ◌, ◌≤ℤ◌, ◌<ℤ◌, refl, arith}
 use Rattle.int_algebra.proofs.Laws.{linear}
 use Rattle.int_algebra.proofs.Ring.{Expression, constant, variable, ◌⊕◌, ◌⊖◌, ◌⊗◌}
 use Rattle.int_algebra.proofs.Orders.{at_most, natural-NonNegative, given, ◌⊞◌, ◌⊠◌, ◌≼◌, cancel-at_most}
 use Rattle.grid.specs.Boxes.{IsUpTo}
+use Rattle.grid.specs.Limits.{largest_side}
 use Rattle.cutting_rule.specs.Spread.{IsSpread}
 
 half : (q m : ℤ) → (pos 2 *ℤ q) ≤ℤ (pos 2 *ℤ m) → q ≤ℤ m
@@ -74,7 +75,7 @@ wide_enough x w m a b h two le =
     at_most (x ∷ w ∷ m ∷ a ∷ b ∷ []) ((v 0 ⊗ v 1 ≼ (v 2 ⊖ two_) ⊗ v 3) ∷ (two_ ≼ v 2) ∷ (v 3 ≼ v 4) ∷ [])
     (v 0 ⊗ v 1 ⊕ two_ ⊗ v 4) (v 2 ⊗ v 4) (given 0 ⊞ given 1 ⊠ given 2) refl (h, (two, (le, tt)))
 
-pub one_axis : (e f g : ℤ) (u v w area : ℕ) (c d i lo hi l h p r : ℤ) → IsSpread lo hi (u + v + w) area l h → IsUpTo (2 ^ 18) p → (pos 0 -ℤ pos u) ≤ℤ e → (pos 0 -ℤ pos v) ≤ℤ f → (pos 0 -ℤ pos w) ≤ℤ g
+pub one_axis : (e f g : ℤ) (u v w area : ℕ) (c d i lo hi l h p r : ℤ) → IsSpread lo hi (u + v + w) area l h → IsUpTo largest_side p → (pos 0 -ℤ pos u) ≤ℤ e → (pos 0 -ℤ pos v) ≤ℤ f → (pos 0 -ℤ pos w) ≤ℤ g
     → ((lo ≤ℤ c) × (c ≤ℤ hi)) → ((lo ≤ℤ d) × (d ≤ℤ hi)) → ((lo ≤ℤ i) × (i ≤ℤ hi)) → pos area ≤ℤ (e +ℤ f +ℤ g) → pos 0 <ℤ (e +ℤ f +ℤ g) → (e +ℤ f +ℤ g) *ℤ p +ℤ r ≡ e *ℤ c +ℤ f *ℤ d +ℤ g *ℤ i
     → ((pos 0 -ℤ pos 2 *ℤ (e +ℤ f +ℤ g)) ≤ℤ r) × (r ≤ℤ (pos 2 *ℤ (e +ℤ f +ℤ g))) → (l ≤ℤ p) × (p ≤ℤ h)
 one_axis e f g u v w area c d i lo hi l h p r s p_in e_in f_in g_in c_in d_in i_in le some mean r_in =

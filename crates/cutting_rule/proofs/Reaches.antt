@@ -1,11 +1,12 @@
 -- The box about a triangle: it has the bounding box, and each point of the section.
-use Rattle.std.proofs.Common.{◌≡◌, ◌^◌, ℕ, ℤ, ◌≤ℤ◌, Bool, true, false, ◌&&◌, int_le, List, [], ◌∷◌, inl, inr, refl, sym, ◌∙◌, arith}
+use Rattle.std.proofs.Common.{◌≡◌, ℕ, ℤ, ◌≤ℤ◌, Bool, true, false, ◌&&◌, int_le, List, [], ◌∷◌, inl, inr, refl, sym, ◌∙◌, arith}
 use Rattle.std.specs.List.{list_any}
 use Rattle.std.proofs.lemmas.Bool.{or_left, or_right, or_cases, true≢false, false_from_ne_true}
 use Rattle.std.proofs.lemmas.Int.{ints}
 use Rattle.grid.specs.declared.shapes.Point.{Point}
 use Rattle.grid.specs.declared.shapes.Tri.{Tri}
 use Rattle.grid.specs.Boxes.{IsUpTo, IsInBox}
+use Rattle.grid.specs.Limits.{largest_side}
 use Rattle.mesh_types.specs.CuttingRule.{is_in_section}
 use Rattle.cutting_rule.specs.Bounds.{AreBounds, overlaps, is_met}
 use Rattle.cutting_rule.specs.Section.{IsWithin}
@@ -44,16 +45,16 @@ overlaps-more f lo hi l h low high ps e =
     (any-more (λ p. int_le lo (f p)) (λ p. int_le l (f p)) (λ p k. le-less l lo (f p) low k) ps (and_right _ _ e))
 
 -- an end of the wider range is beyond that of the narrower
-spread-low : (lo hi : ℤ) (wide area : ℕ) (l h : ℤ) → IsUpTo (2 ^ 18) lo → IsSpread lo hi wide area l h → l ≤ℤ lo
+spread-low : (lo hi : ℤ) (wide area : ℕ) (l h : ℤ) → IsUpTo largest_side lo → IsSpread lo hi wide area l h → l ≤ℤ lo
 spread-low lo hi wide area l h within s = let low = within.low in s.low lo (omega (arith, ints, low)) (omega (arith, ints))
 
-spread-high : (lo hi : ℤ) (wide area : ℕ) (l h : ℤ) → IsUpTo (2 ^ 18) hi → IsSpread lo hi wide area l h → hi ≤ℤ h
+spread-high : (lo hi : ℤ) (wide area : ℕ) (l h : ℤ) → IsUpTo largest_side hi → IsSpread lo hi wide area l h → hi ≤ℤ h
 spread-high lo hi wide area l h within s = let high = within.high in s.high hi (omega (arith, ints, high)) (omega (arith, ints))
 
 rise : (lo hi l h : ℤ) → l ≤ℤ lo → hi ≤ℤ h → int_le lo hi ≡ true → l ≤ℤ h
 rise lo hi l h low high e = grind (arith, ints)
 
-pub reach-is : (t : Tri) (lo hi l h : Point) (wide area : ℕ) → AreBounds lo hi t.0 → IsInBox (2 ^ 18) lo → IsInBox (2 ^ 18) hi → IsSpreadBox lo hi wide area l h → ((p : Point) → IsInBox (2 ^ 18) p → is_in_section t p ≡ true → IsWithin l h p) → IsReach t l h
+pub reach-is : (t : Tri) (lo hi l h : Point) (wide area : ℕ) → AreBounds lo hi t.0 → IsInBox largest_side lo → IsInBox largest_side hi → IsSpreadBox lo hi wide area l h → ((p : Point) → IsInBox largest_side p → is_in_section t p ≡ true → IsWithin l h p) → IsReach t l h
 reach-is t lo hi l h wide area bounds lo_in hi_in s inside =
     let x_low = spread-low lo.x hi.x wide area l.x h.x lo_in.x_in s.x_spread in
     let y_low = spread-low lo.y hi.y wide area l.y h.y lo_in.y_in s.y_spread in

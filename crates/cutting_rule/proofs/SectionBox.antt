@@ -13,6 +13,7 @@ use Rattle.grid.specs.Boxes.{corner_of, IsInBox}
 use Rattle.grid.specs.Determinants.{origin}
 use Rattle.grid.specs.Vectors.{Vector, difference, dot}
 use Rattle.grid.specs.Planes.{value_of, snap_sign, normal_of, unit_of, largest_axis, side_normal, side_plane, IsDegenerate}
+use Rattle.grid.specs.Limits.{largest_side}
 use Rattle.mesh_types.specs.CuttingRule.{lies_below, lies_on, section_plane, is_in_section}
 use Rattle.planes.proofs.SideLemmas.{side_plane-third}
 use Rattle.cutting_rule.proofs.SnapReaches.{on_reach, above_reach, height_low, height_high}
@@ -105,7 +106,7 @@ module _ (t : Tri) where
   module _ (lo hi l h : Point) (u v w area : ℕ) (three : length t.0 ≡ 3) (some_area : ¬ IsDegenerate t) (ends : AreBounds lo hi t.0)
       (u_in : dot (side_normal t 0) (side_normal t 0) ≤ℤ pos (u * u)) (v_in : dot (side_normal t 1) (side_normal t 1) ≤ℤ pos (v * v)) (w_in : dot (side_normal t 2) (side_normal t 2) ≤ℤ pos (w * w))
       (area_in : (n : ℕ) → 1 ≤ n → IsLengthAtMost (normal_of t) n → area ≤ n) (spread : IsSpreadBox lo hi (u + v + w) area l h) where
-    pub section-IsWithin : (p : Point) → IsInBox (2 ^ 18) p → is_in_section t p ≡ true → IsWithin l h p
+    pub section-IsWithin : (p : Point) → IsInBox largest_side p → is_in_section t p ≡ true → IsWithin l h p
     unfolding is_in_section value_of
     section-IsWithin p p_in e =
         let a = corner_of t 0 in

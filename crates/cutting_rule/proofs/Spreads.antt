@@ -1,5 +1,5 @@
 -- The numbers of the code that widens a box.
-use Rattle.std.proofs.Common.{◌≡◌, ℕ, ◌+◌, ◌*◌, ◌/◌, ◌^◌, ◌<◌, ◌≤◌, List, [], ◌∷◌, length, map, ℤ, pos, negsuc, ◌+ℤ◌, ◌-ℤ◌, ◌*ℤ◌, ◌≤ℤ◌, refl, sym, ap, ◌∙◌, subst, arith, slice_index_or}
+use Rattle.std.proofs.Common.{◌≡◌, ℕ, ◌+◌, ◌*◌, ◌/◌, ◌<◌, ◌≤◌, List, [], ◌∷◌, length, map, ℤ, pos, negsuc, ◌+ℤ◌, ◌-ℤ◌, ◌*ℤ◌, ◌≤ℤ◌, refl, sym, ap, ◌∙◌, subst, arith, slice_index_or}
 use Rattle.std.specs.Int.{int_max, int_min}
 use Rattle.std.specs.List.{Contains}
 use Rattle.std.proofs.Math.Nat.{lt-mul-div-succ}
@@ -15,6 +15,7 @@ use Rattle.grid.specs.Boxes.{IsUpTo, IsInBox, IsTriInBox}
 use Rattle.grid.specs.Determinants.{origin}
 use Rattle.grid.specs.Planes.{Plane, normal_of}
 use Rattle.grid.specs.Vectors.{Vector, dot}
+use Rattle.grid.specs.Limits.{largest_side}
 use Rattle.mesh_types.specs.CuttingRule.{section_plane}
 use Rattle.cutting_rule.specs.Bounds.{AreBounds}
 use Rattle.cutting_rule.specs.Spread.{IsSpread, IsLengthAtMost}
@@ -66,13 +67,13 @@ min-greatest a b q h k = let e = int_min_is a b in omega (arith, ints, e, h, k)
 pub min-right : (a b : ℤ) → int_min a b ≤ℤ b
 min-right a b = let e = int_min_is a b in omega (arith, ints, e)
 
-pub spread-is : (lo hi : ℤ) (m wide area : ℕ) (x y : ℤ) → 2 ≤ m → ((hi -ℤ lo) *ℤ pos wide) ≤ℤ ((pos m -ℤ pos 2) *ℤ pos area) → x ≡ int_max (lo -ℤ pos m) (pos 0) → y ≡ int_min (hi +ℤ pos m) (pos (2 ^ 18)) → IsSpread lo hi wide area x y
+pub spread-is : (lo hi : ℤ) (m wide area : ℕ) (x y : ℤ) → 2 ≤ m → ((hi -ℤ lo) *ℤ pos wide) ≤ℤ ((pos m -ℤ pos 2) *ℤ pos area) → x ≡ int_max (lo -ℤ pos m) (pos 0) → y ≡ int_min (hi +ℤ pos m) (pos largest_side) → IsSpread lo hi wide area x y
 spread-is lo hi m wide area x y two enough e f = record {
   margin = m;
   least = two;
   enough = enough;
   low = λ q h k. subst (λ (z : ℤ). z ≤ℤ q) (sym e) (max-least (lo -ℤ pos m) (pos 0) q k h);
-  high = λ q h k. subst (λ (z : ℤ). q ≤ℤ z) (sym f) (min-greatest (hi +ℤ pos m) (pos (2 ^ 18)) q k h);
+  high = λ q h k. subst (λ (z : ℤ). q ≤ℤ z) (sym f) (min-greatest (hi +ℤ pos m) (pos largest_side) q k h);
 }
 
 pub spread-at : (lo hi : ℤ) (wide area : ℕ) (l h a b c d : ℤ) → a ≡ lo → b ≡ hi → l ≡ c → h ≡ d → IsSpread a b wide area c d → IsSpread lo hi wide area l h

@@ -1,10 +1,11 @@
 -- Where a triangle's wanted edges and its section can be.
-use Rattle.std.specs.Prelude.{◌≡◌, ◌^◌, ℕ, zero, suc, ◌≤ℤ◌, Bool, true, false, ◌&&◌, ◌||◌, cond, Option, None, Some, List, [], ◌∷◌}
+use Rattle.std.specs.Prelude.{◌≡◌, ℕ, zero, suc, ◌≤ℤ◌, Bool, true, false, ◌&&◌, ◌||◌, cond, Option, None, Some, List, [], ◌∷◌}
 use Rattle.std.specs.List.{list_any}
 use Rattle.grid.specs.declared.shapes.Point.{Point}
 use Rattle.grid.specs.declared.shapes.Tri.{Tri}
 use Rattle.grid.specs.Boxes.{IsInBox}
 use Rattle.grid.specs.Planes.{Plane, side_plane}
+use Rattle.grid.specs.Limits.{largest_side}
 use Rattle.mesh_types.specs.CuttingRule.{lies_above, lies_on, is_crossed, reaches, splits, section_plane, boxes_meet, is_in_section}
 use Rattle.cutting_rule.specs.Bounds.{is_met}
 use Rattle.cutting_rule.specs.Section.{IsWithin}
@@ -40,4 +41,4 @@ pub record IsReach (t : Tri) (lo hi : Point) : Type 0 where
   pub y_ordered : lo.y ≤ℤ hi.y
   pub z_ordered : lo.z ≤ℤ hi.z
   pub meeting : (ps : List Point) → is_met lo hi ps ≡ false → boxes_meet ps t.0 ≡ false
-  pub section : (p : Point) → IsInBox (2 ^ 18) p → is_in_section t p ≡ true → IsWithin lo hi p
+  pub section : (p : Point) → IsInBox largest_side p → is_in_section t p ≡ true → IsWithin lo hi p

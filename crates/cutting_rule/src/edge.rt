@@ -2,11 +2,12 @@
 ghost use Rattle.cutting_rule.specs.Edges.{numbers_of, segment_numbers};
 ghost use Rattle.grid.specs.Boxes.{IsInBox};
 ghost use Rattle.grid.specs.Determinants.{point_at};
+ghost use Rattle.grid.specs.Limits.{largest_side};
 ghost use Rattle.grid.specs.Simplices.{rising};
 ghost use Rattle.grid.specs.declared.shapes.Point.{Point};
 ghost use Rattle.mesh_types.specs.Phases.{edges, points_of};
 ghost use Rattle.mesh_types.specs.Tracking.{in_order_once};
-ghost use Rattle.std.specs.Prelude.{All, List, [], ◌^◌, ◌∷◌, ◌≡◌};
+ghost use Rattle.std.specs.Prelude.{All, List, [], ◌∷◌, ◌≡◌};
 
 use grid::{Point, Tet};
 
@@ -23,11 +24,11 @@ pub(crate) struct Segment {
 
 /// The edge of the points numbered a and b, which are p and q.
 fn segment_of(a: u32, p: Point, b: u32, q: Point) -> Segment
-    requires p_in { IsInBox (2 ^ 18) p }
-    requires q_in { IsInBox (2 ^ 18) q }
+    requires p_in { IsInBox largest_side p }
+    requires q_in { IsInBox largest_side q }
     ensures edge { result.edge.0 ≡ rising (a ∷ b ∷ []) }
     ensures ends { (points : List Point) → p ≡ point_at points a → q ≡ point_at points b → result.ends ≡ points_of points result.edge.0 }
-    ensures ends_in { All (IsInBox (2 ^ 18)) result.ends }
+    ensures ends_in { All (IsInBox largest_side) result.ends }
 {
     if b < a {
         Segment {
@@ -44,10 +45,10 @@ fn segment_of(a: u32, p: Point, b: u32, q: Point) -> Segment
 
 /// The six edges of a tetrahedron whose corners are these points.
 pub(crate) fn segments(tet: Tet, corners: &[Point; 4]) -> [Segment; 6]
-    requires { All (IsInBox (2 ^ 18)) corners.now }
+    requires { All (IsInBox largest_side) corners.now }
     ensures edges { segment_numbers result ≡ edges tet.0 }
     ensures ends { (points : List Point) → corners.now ≡ points_of points tet.0 → All (λ s. s.ends ≡ points_of points s.edge.0) result }
-    ensures ends_in { All (λ s. All (IsInBox (2 ^ 18)) s.ends) result }
+    ensures ends_in { All (λ s. All (IsInBox largest_side) s.ends) result }
 {
     let Tet([a, b, c, d]) = tet;
     let p = corners[0];

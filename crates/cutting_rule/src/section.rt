@@ -1,12 +1,13 @@
 // The faces of a tetrahedron that are in a triangle's section.
 ghost use Rattle.cutting_rule.specs.Section.{section_in};
 ghost use Rattle.grid.specs.Boxes.{IsInBox};
+ghost use Rattle.grid.specs.Limits.{largest_side};
 ghost use Rattle.grid.specs.Simplices.{rising};
 ghost use Rattle.grid.specs.Views.{triples_of};
 ghost use Rattle.grid.specs.declared.shapes.Point.{Point};
 ghost use Rattle.mesh_types.specs.Phases.{points_of};
 ghost use Rattle.mesh_types.specs.Tracking.{in_order_once};
-ghost use Rattle.std.specs.Prelude.{All, List, OnOk, [], if◌then◌else◌, ◌&&◌, ◌++◌, ◌^◌, ◌∷◌, ◌≡◌};
+ghost use Rattle.std.specs.Prelude.{All, List, OnOk, [], if◌then◌else◌, ◌&&◌, ◌++◌, ◌∷◌, ◌≡◌};
 
 use crate::triangle::CuttingTriangle;
 use grid::{Face, Memory, Point, Tet};
@@ -34,7 +35,7 @@ pub fn push_section(
     corners: &[Point; 4],
     into: &mut Vec<Face>,
 ) -> Result<(), Memory>
-    requires { All (IsInBox (2 ^ 18)) corners.now }
+    requires { All (IsInBox largest_side) corners.now }
     ensures { OnOk result ((points : List Point) → corners.now ≡ points_of points tet.0 → triples_of into.new.items ≡ triples_of into.old.items ++ section_in points triangle.now tet.0) }
 {
     let Tet([a, b, c, d]) = tet;

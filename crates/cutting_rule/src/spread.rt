@@ -1,11 +1,12 @@
 // How far a triangle's section reaches beyond the triangle's bounding box.
 ghost use Rattle.cutting_rule.specs.Spread.{IsLengthAtMost, IsSpread, IsSpreadBox};
 ghost use Rattle.grid.specs.Boxes.{IsInBox, IsUpTo};
+ghost use Rattle.grid.specs.Limits.{largest_side};
 ghost use Rattle.grid.specs.Vectors.{dot};
 ghost use Rattle.std.specs.Prelude.{pos, ℕ, ◌*ℤ◌, ◌*◌, ◌-ℤ◌, ◌^◌, ◌≤ℤ◌, ◌≤◌};
 
 use crate::bounds::{Bounds, Ends, point};
-use grid::Point;
+use grid::{LARGEST_SIDE, Point};
 use planes::Plane;
 
 /// A number that is at least the length of the plane's normal: the sum of its components.
@@ -32,8 +33,8 @@ pub(crate) fn longest(plane: &Plane) -> u64
 /// A margin for a range of one coordinate, in grid steps: by the range's length times `wide` / `area`
 /// a point may lie beyond the sides, and by fewer than 2 off the plane.
 fn margin_of(lo: i32, hi: i32, wide: u64, area: u64) -> u64
-    requires lo_in { IsUpTo (2 ^ 18) lo }
-    requires hi_in { IsUpTo (2 ^ 18) hi }
+    requires lo_in { IsUpTo largest_side lo }
+    requires hi_in { IsUpTo largest_side hi }
     requires ordered { lo ≤ℤ hi }
     requires wide_in { wide ≤ 9 * 2 ^ 37 }
     requires area_in { 1 ≤ area }
@@ -45,8 +46,8 @@ fn margin_of(lo: i32, hi: i32, wide: u64, area: u64) -> u64
 }
 
 fn spread(lo: i32, hi: i32, wide: u64, area: u64) -> Ends
-    requires lo_in { IsUpTo (2 ^ 18) lo }
-    requires hi_in { IsUpTo (2 ^ 18) hi }
+    requires lo_in { IsUpTo largest_side lo }
+    requires hi_in { IsUpTo largest_side hi }
     requires ordered { lo ≤ℤ hi }
     requires wide_in { wide ≤ 9 * 2 ^ 37 }
     requires area_in { 1 ≤ area }
@@ -55,14 +56,14 @@ fn spread(lo: i32, hi: i32, wide: u64, area: u64) -> Ends
     let margin = margin_of(lo, hi, wide, area) as i64;
     Ends {
         lo: (lo as i64 - margin).max(0) as i32,
-        hi: (hi as i64 + margin).min(262_144) as i32,
+        hi: (hi as i64 + margin).min(LARGEST_SIDE as i64) as i32,
     }
 }
 
 /// The box, widened by a margin at each coordinate, and cut at the ends of the grid.
 pub(crate) fn spread_box(bounds: Bounds, wide: u64, area: u64) -> Bounds
-    requires lo_in { IsInBox (2 ^ 18) bounds.lo }
-    requires hi_in { IsInBox (2 ^ 18) bounds.hi }
+    requires lo_in { IsInBox largest_side bounds.lo }
+    requires hi_in { IsInBox largest_side bounds.hi }
     requires x_ordered { bounds.lo.x ≤ℤ bounds.hi.x }
     requires y_ordered { bounds.lo.y ≤ℤ bounds.hi.y }
     requires z_ordered { bounds.lo.z ≤ℤ bounds.hi.z }

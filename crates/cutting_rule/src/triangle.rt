@@ -2,13 +2,14 @@
 ghost use Rattle.cutting_rule.specs.Bounds.{AreBounds};
 ghost use Rattle.cutting_rule.specs.Touching.{IsReach, touch};
 ghost use Rattle.grid.specs.Boxes.{IsInBox, IsTriInBox};
+ghost use Rattle.grid.specs.Limits.{largest_side};
 ghost use Rattle.grid.specs.Planes.{IsDegenerate};
 ghost use Rattle.grid.specs.Planes;
 ghost use Rattle.grid.specs.declared.shapes.Point.{Point};
 ghost use Rattle.mesh_types.specs.CuttingRule.{boxes_meet, is_crossed, is_in_section, is_wanted, lies_above, lies_below, lies_on, phase_plane, reaches, section_plane, splits};
 ghost use Rattle.mesh_types.specs.Phases.{points_of, wanted_in};
 ghost use Rattle.std.specs.List.{list_all, list_any};
-ghost use Rattle.std.specs.Prelude.{All, List, [], false, map, true, ℕ, ◌&&◌, ◌<◌, ◌^◌, ◌≡◌};
+ghost use Rattle.std.specs.Prelude.{All, List, [], false, map, true, ℕ, ◌&&◌, ◌<◌, ◌≡◌};
 
 use crate::bounds::{Bounds, bounds_of};
 use crate::signs::{all_above, is_crossed, may_want_along, signs_of};
@@ -42,7 +43,7 @@ impl Model for CuttingTriangle {
 impl CuttingTriangle {
     /// The triangle, its corners in the grid.
     pub fn new(tri: &Tri) -> CuttingTriangle
-        requires tri_in { IsTriInBox (2 ^ 18) tri.now }
+        requires tri_in { IsTriInBox largest_side tri.now }
         requires some_area { ¬ IsDegenerate tri.now }
         ensures { result ≡ tri.now }
     {
@@ -72,7 +73,7 @@ impl CuttingTriangle {
     /// Whether the points lie on both sides of the plane of a phase.
     pub(crate) fn splits(&self, i: u32, points: &[Point]) -> bool
         requires index { i < 4 }
-        requires points_in { All (IsInBox (2 ^ 18)) points.now }
+        requires points_in { All (IsInBox largest_side) points.now }
         ensures { result ≡ splits (phase_plane self.now i) points.now }
     {
         let signs = signs_of(self.phase_plane(i), points);
@@ -81,7 +82,7 @@ impl CuttingTriangle {
 
     /// Whether there is no side beyond which, or on which, all the points lie.
     pub(crate) fn reaches(&self, points: &[Point]) -> bool
-        requires { All (IsInBox (2 ^ 18)) points.now }
+        requires { All (IsInBox largest_side) points.now }
         ensures { result ≡ reaches self.now points.now }
     {
         self.is_above(1, points) && self.is_above(2, points) && self.is_above(3, points)
@@ -90,7 +91,7 @@ impl CuttingTriangle {
     /// Whether some point lies above the plane of a phase.
     fn is_above(&self, i: u32, points: &[Point]) -> bool
         requires index { i < 4 }
-        requires points_in { All (IsInBox (2 ^ 18)) points.now }
+        requires points_in { All (IsInBox largest_side) points.now }
         ensures { result ≡ list_any (lies_above (phase_plane self.now i)) points.now }
     {
         for point in points {
@@ -104,7 +105,7 @@ impl CuttingTriangle {
     /// Whether all the points lie on the triangle's plane.
     #[tactic(auto, using(crate::proofs::Sides::all_on))]
     fn has_on_plane(&self, points: &[Point]) -> bool
-        requires { All (IsInBox (2 ^ 18)) points.now }
+        requires { All (IsInBox largest_side) points.now }
         ensures { result ≡ list_all (lies_on (section_plane self.now)) points.now }
     {
         let signs = signs_of(&self.plane, points);
@@ -138,7 +139,7 @@ impl CuttingTriangle {
 
     /// Whether a tetrahedron of these corners is crossed.
     fn crosses(&self, corners: &[Point; 4]) -> bool
-        requires { All (IsInBox (2 ^ 18)) corners.now }
+        requires { All (IsInBox largest_side) corners.now }
         ensures { result ≡ is_crossed self.now corners.now }
     {
         self.meets(corners) && self.splits(0, corners) && self.reaches(corners)
@@ -147,7 +148,7 @@ impl CuttingTriangle {
     /// Whether phase i may want edges of a tetrahedron of these corners.
     pub(crate) fn may_want(&self, i: u32, corners: &[Point; 4]) -> bool
         requires index { i < 4 }
-        requires corners_in { All (IsInBox (2 ^ 18)) corners.now }
+        requires corners_in { All (IsInBox largest_side) corners.now }
         ensures no { result ≡ false → (points : List Point) (x : List ℕ) → corners.now ≡ points_of points x → wanted_in points self.now i x ≡ [] }
         ensures yes { result ≡ true → i ≡ 0 → is_crossed self.now corners.now ≡ true }
     {
@@ -162,7 +163,7 @@ impl CuttingTriangle {
     /// of a phase.
     fn may_want_later(&self, i: u32, corners: &[Point; 4]) -> bool
         requires index { i < 4 }
-        requires corners_in { All (IsInBox (2 ^ 18)) corners.now }
+        requires corners_in { All (IsInBox largest_side) corners.now }
         ensures { result ≡ (list_any (lies_on (section_plane self.now)) corners.now && splits (phase_plane self.now i) corners.now) }
     {
         self.has_some_on_plane(corners) && self.splits(i, corners)
@@ -170,7 +171,7 @@ impl CuttingTriangle {
 
     /// Whether some of the points lie on the triangle's plane.
     fn has_some_on_plane(&self, points: &[Point]) -> bool
-        requires { All (IsInBox (2 ^ 18)) points.now }
+        requires { All (IsInBox largest_side) points.now }
         ensures { result ≡ list_any (lies_on (section_plane self.now)) points.now }
     {
         let signs = signs_of(&self.plane, points);
@@ -181,7 +182,7 @@ impl CuttingTriangle {
     /// triangle's plane and lie not all beyond one of its sides. Of any other tetrahedron no phase wants
     /// an edge, and no face is in the section.
     pub fn touch(&self, corners: &[Point; 4]) -> Option<[bool; 4]>
-        requires { All (IsInBox (2 ^ 18)) corners.now }
+        requires { All (IsInBox largest_side) corners.now }
         ensures { result ≡ touch self.now corners.now }
     {
         let plane = signs_of(&self.plane, corners);
@@ -212,7 +213,7 @@ impl CuttingTriangle {
     /// Whether a phase wants the edge of these ends in a tetrahedron of these corners.
     pub(crate) fn wants(&self, i: u32, corners: &[Point; 4], ends: &[Point; 2]) -> bool
         requires index { i < 4 }
-        requires ends_in { All (IsInBox (2 ^ 18)) ends.now }
+        requires ends_in { All (IsInBox largest_side) ends.now }
         requires crossed { i ≡ 0 → is_crossed self.now corners.now ≡ true }
         ensures { result ≡ is_wanted self.now i corners.now ends.now }
     {
@@ -226,7 +227,7 @@ impl CuttingTriangle {
     /// Whether a phase after the first wants the edge of these ends.
     fn wants_later(&self, i: u32, ends: &[Point; 2]) -> bool
         requires index { i < 4 }
-        requires ends_in { All (IsInBox (2 ^ 18)) ends.now }
+        requires ends_in { All (IsInBox largest_side) ends.now }
         ensures { result ≡ (splits (phase_plane self.now i) ends.now && (list_all (lies_on (section_plane self.now)) ends.now && (reaches self.now ends.now && boxes_meet ends.now self.now.0))) }
     {
         self.splits(i, ends) && self.has_on_plane(ends) && self.reaches(ends) && self.meets(ends)
@@ -235,7 +236,7 @@ impl CuttingTriangle {
     /// Whether a point is in the triangle's section.
     #[tactic(auto, unfolding(mesh_types::specs::CuttingRule::is_in_section))]
     pub fn has_in_section(&self, p: Point) -> bool
-        requires { IsInBox (2 ^ 18) p }
+        requires { IsInBox largest_side p }
         ensures { result ≡ is_in_section self.now p }
     {
         self.has_on_plane(&[p])
@@ -248,7 +249,7 @@ impl CuttingTriangle {
     #[tactic(auto, unfolding(mesh_types::specs::CuttingRule::lies_below))]
     fn is_beyond(&self, i: u32, p: Point) -> bool
         requires index { i < 4 }
-        requires p_in { IsInBox (2 ^ 18) p }
+        requires p_in { IsInBox largest_side p }
         ensures { result ≡ lies_below (phase_plane self.now i) p }
     {
         self.phase_plane(i).snap_sign(p) < 0
@@ -257,7 +258,7 @@ impl CuttingTriangle {
 
 #[tactic(auto, unfolding(mesh_types::specs::CuttingRule::lies_above))]
 fn is_above(plane: &Plane, p: Point) -> bool
-    requires { IsInBox (2 ^ 18) p }
+    requires { IsInBox largest_side p }
     ensures { result ≡ lies_above plane.now p }
 {
     plane.snap_sign(p) > 0
@@ -265,7 +266,7 @@ fn is_above(plane: &Plane, p: Point) -> bool
 
 #[tactic(auto, unfolding(mesh_types::specs::CuttingRule::section_plane))]
 fn plane_of_some_area(tri: &Tri) -> Plane
-    requires tri_in { IsTriInBox (2 ^ 18) tri.now }
+    requires tri_in { IsTriInBox largest_side tri.now }
     requires some_area { ¬ IsDegenerate tri.now }
     ensures { result ≡ section_plane tri.now }
 {

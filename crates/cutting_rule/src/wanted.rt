@@ -1,10 +1,11 @@
 // The edges of a tetrahedron that a phase wants.
 ghost use Rattle.cutting_rule.specs.Edges.{numbers_of};
 ghost use Rattle.grid.specs.Boxes.{IsInBox};
+ghost use Rattle.grid.specs.Limits.{largest_side};
 ghost use Rattle.grid.specs.declared.shapes.Point.{Point};
 ghost use Rattle.mesh_types.specs.CuttingRule.{is_crossed, is_wanted};
 ghost use Rattle.mesh_types.specs.Phases.{points_of, wanted_in};
-ghost use Rattle.std.specs.Prelude.{All, List, OnOk, [], if◌then◌else◌, true, ◌++◌, ◌<◌, ◌^◌, ◌∷◌, ◌≡◌};
+ghost use Rattle.std.specs.Prelude.{All, List, OnOk, [], if◌then◌else◌, true, ◌++◌, ◌<◌, ◌∷◌, ◌≡◌};
 
 use crate::edge::{Edge, Segment, segments};
 use crate::triangle::CuttingTriangle;
@@ -18,7 +19,7 @@ fn push_if_wanted(
     into: &mut Vec<Edge>,
 ) -> Result<(), Memory>
     requires index { i < 4 }
-    requires ends_in { All (IsInBox (2 ^ 18)) segment.ends }
+    requires ends_in { All (IsInBox largest_side) segment.ends }
     requires crossed { i ≡ 0 → is_crossed triangle.now corners.now ≡ true }
     ensures { OnOk result (numbers_of into.new.items ≡ numbers_of into.old.items ++ (if is_wanted triangle.now i corners.now segment.ends then segment.edge.0 ∷ [] else [])) }
 {
@@ -37,7 +38,7 @@ pub fn push_wanted(
     into: &mut Vec<Edge>,
 ) -> Result<(), Memory>
     requires index { i < 4 }
-    requires corners_in { All (IsInBox (2 ^ 18)) corners.now }
+    requires corners_in { All (IsInBox largest_side) corners.now }
     ensures { OnOk result ((points : List Point) → corners.now ≡ points_of points tet.0 → numbers_of into.new.items ≡ numbers_of into.old.items ++ wanted_in points triangle.now i tet.0) }
 {
     if !triangle.may_want(i, corners) {
@@ -56,7 +57,7 @@ pub fn push_wanted_of(
     into: &mut Vec<Edge>,
 ) -> Result<(), Memory>
     requires index { i < 4 }
-    requires corners_in { All (IsInBox (2 ^ 18)) corners.now }
+    requires corners_in { All (IsInBox largest_side) corners.now }
     requires crossed { i ≡ 0 → is_crossed triangle.now corners.now ≡ true }
     ensures { OnOk result ((points : List Point) → corners.now ≡ points_of points tet.0 → numbers_of into.new.items ≡ numbers_of into.old.items ++ wanted_in points triangle.now i tet.0) }
 {

@@ -3,6 +3,7 @@ use Rattle.std.specs.Prelude.{◌≡◌, ℕ, ◌+◌, ◌*◌, ◌^◌, ◌<◌
 use Rattle.grid.specs.declared.shapes.Tri.{Tri}
 use Rattle.grid.specs.Boxes.{IsInBox}
 use Rattle.grid.specs.Envelopes.{AreNear, IsNearTo}
+use Rattle.grid.specs.Limits.{most_epsilon}
 use Rattle.envelope_tree.specs.declared.bounds.Bounds.{Bounds}
 use Rattle.envelope_tree.specs.declared.query.Query.{Query}
 use Rattle.envelope_tree.specs.declared.tree.Node.{Node}
@@ -14,7 +15,7 @@ pub record IsQuery (q : Query) : Type 0 where
   pub a_in : IsInBox (2 ^ (18 + q.k)) q.a
   pub b_in : IsInBox (2 ^ (18 + q.k)) q.b
   pub c_in : IsInBox (2 ^ (18 + q.k)) q.c
-  pub e_in : q.e ≤ 4095
+  pub e_in : q.e ≤ most_epsilon
   pub scale : q.scale ≡ pos (2 ^ q.k)
   pub reach : q.reach ≡ pos (q.e * 2 ^ q.k * (q.e * 2 ^ q.k))
 

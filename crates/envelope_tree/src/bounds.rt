@@ -1,3 +1,4 @@
+ghost use Rattle.grid.specs.Limits.{largest_side};
 ghost use Rattle.std.specs.Prelude.{◌≡◌, ◌≤◌, ◌^◌, ◌≤ℤ◌};
 ghost use Rattle.int_algebra.specs.Within.{IsWithin};
 ghost use Rattle.grid.specs.Boxes.{IsUpTo, IsInBox, IsTriInBox};
@@ -17,9 +18,9 @@ pub struct Interval {
 impl Interval {
     /// The least interval with three numbers.
     fn hull(a: i32, b: i32, c: i32) -> Interval
-        requires a_in { IsUpTo (2 ^ 18) a }
-        requires b_in { IsUpTo (2 ^ 18) b }
-        requires c_in { IsUpTo (2 ^ 18) c }
+        requires a_in { IsUpTo largest_side a }
+        requires b_in { IsUpTo largest_side b }
+        requires c_in { IsUpTo largest_side c }
         ensures a_spanned { Spans result a }
         ensures b_spanned { Spans result b }
         ensures c_spanned { Spans result c }
@@ -58,45 +59,45 @@ impl Interval {
 }
 
 fn lesser(a: i32, b: i32) -> i32
-    requires a_in { IsUpTo (2 ^ 18) a }
-    requires b_in { IsUpTo (2 ^ 18) b }
+    requires a_in { IsUpTo largest_side a }
+    requires b_in { IsUpTo largest_side b }
     ensures first { result ≤ℤ a }
     ensures second { result ≤ℤ b }
-    ensures within { IsUpTo (2 ^ 18) result }
+    ensures within { IsUpTo largest_side result }
 {
     if a < b { a } else { b }
 }
 
 fn greater(a: i32, b: i32) -> i32
-    requires a_in { IsUpTo (2 ^ 18) a }
-    requires b_in { IsUpTo (2 ^ 18) b }
+    requires a_in { IsUpTo largest_side a }
+    requires b_in { IsUpTo largest_side b }
     ensures first { a ≤ℤ result }
     ensures second { b ≤ℤ result }
-    ensures within { IsUpTo (2 ^ 18) result }
+    ensures within { IsUpTo largest_side result }
 {
     if a < b { b } else { a }
 }
 
 fn least(a: i32, b: i32, c: i32) -> i32
-    requires a_in { IsUpTo (2 ^ 18) a }
-    requires b_in { IsUpTo (2 ^ 18) b }
-    requires c_in { IsUpTo (2 ^ 18) c }
+    requires a_in { IsUpTo largest_side a }
+    requires b_in { IsUpTo largest_side b }
+    requires c_in { IsUpTo largest_side c }
     ensures first { result ≤ℤ a }
     ensures second { result ≤ℤ b }
     ensures third { result ≤ℤ c }
-    ensures within { IsUpTo (2 ^ 18) result }
+    ensures within { IsUpTo largest_side result }
 {
     if a < b { lesser(a, c) } else { lesser(b, c) }
 }
 
 fn greatest(a: i32, b: i32, c: i32) -> i32
-    requires a_in { IsUpTo (2 ^ 18) a }
-    requires b_in { IsUpTo (2 ^ 18) b }
-    requires c_in { IsUpTo (2 ^ 18) c }
+    requires a_in { IsUpTo largest_side a }
+    requires b_in { IsUpTo largest_side b }
+    requires c_in { IsUpTo largest_side c }
     ensures first { a ≤ℤ result }
     ensures second { b ≤ℤ result }
     ensures third { c ≤ℤ result }
-    ensures within { IsUpTo (2 ^ 18) result }
+    ensures within { IsUpTo largest_side result }
 {
     if a < b { greater(b, c) } else { greater(a, c) }
 }
@@ -112,7 +113,7 @@ pub struct Bounds {
 impl Bounds {
     /// The bounding box of a triangle.
     pub fn of_triangle(tri: &Tri) -> Bounds
-        requires tri_in { IsTriInBox (2 ^ 18) tri.now }
+        requires tri_in { IsTriInBox largest_side tri.now }
         ensures encloses { Encloses result tri.now }
         ensures within { AreInGrid result }
     {

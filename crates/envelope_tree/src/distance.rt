@@ -1,3 +1,4 @@
+ghost use Rattle.grid.specs.Limits.{largest_side};
 ghost use Rattle.std.specs.Prelude.{◌≡◌, ◌^◌, ◌+ℤ◌, ◌*ℤ◌};
 ghost use Rattle.int_algebra.specs.Within.{IsWithin};
 ghost use Rattle.grid.specs.Boxes.{IsUpTo};
@@ -5,7 +6,7 @@ ghost use Rattle.envelope_tree.specs.Gaps.{outside_of};
 
 /// A coordinate at a scale.
 pub fn scaled(n: i32, scale: i64) -> i64
-    requires n_in { IsUpTo (2 ^ 18) n }
+    requires n_in { IsUpTo largest_side n }
     requires scale_in { IsWithin (2 ^ 6) scale }
     ensures value { result ≡ scale *ℤ n }
     ensures within { IsWithin (2 ^ 24) result }

@@ -1,3 +1,4 @@
+ghost use Rattle.grid.specs.Limits.{largest_side};
 ghost use Rattle.std.specs.Prelude.{◌≡◌, ◌≤◌, ◌<◌, ◌^◌, ◌+◌, ℕ, All, Contains, IfOk, length, map};
 ghost use Rattle.grid.specs.Boxes.{IsTriInBox};
 ghost use Rattle.envelope_tree.specs.Bounds.{IsInGrid, AreInGrid};
@@ -18,7 +19,7 @@ struct Placed {
 /// in Morton order of the middles of their bounding boxes.
 pub fn in_order(alloc: Global, triangles: &[Tri]) -> Result<Vec<u32>, Memory>
     requires few { length triangles.now ≤ 2 ^ 24 }
-    requires triangles_in { All (IsTriInBox (2 ^ 18)) triangles.now }
+    requires triangles_in { All (IsTriInBox largest_side) triangles.now }
     ensures { IfOk result (λ v. HasAll (length triangles.now) v.items) }
 {
     let mut placed = places(alloc, triangles)?;
@@ -36,7 +37,7 @@ fn numbers_of(alloc: Global, placed: &[Placed]) -> Result<Vec<u32>, Memory>
 /// Each triangle's place on the curve, in the order of the triangles.
 fn places(alloc: Global, triangles: &[Tri]) -> Result<Vec<Placed>, Memory>
     requires few { length triangles.now ≤ 2 ^ 24 }
-    requires triangles_in { All (IsTriInBox (2 ^ 18)) triangles.now }
+    requires triangles_in { All (IsTriInBox largest_side) triangles.now }
     ensures { IfOk result (λ v. HasAll (length triangles.now) (map (λ p. p.number) v.items)) }
 {
     let mut placed = Vec::with_capacity(alloc, triangles.len())?;

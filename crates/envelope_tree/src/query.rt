@@ -1,3 +1,4 @@
+ghost use Rattle.grid.specs.Limits.{largest_side, most_epsilon};
 ghost use Rattle.std.specs.Prelude.{◌≡◌, ◌↔◌, ◌≤◌, ◌<◌, ◌+◌, ◌*◌, ◌^◌, ◌⊎◌, pos, All, IsTrue, length, ◌≤ℤ◌, ◌<ℤ◌};
 ghost use Rattle.int_algebra.specs.Within.{IsWithin};
 ghost use Rattle.grid.specs.Boxes.{IsInBox, IsTriInBox};
@@ -27,7 +28,7 @@ impl Query {
     /// The question, with its scale and its reach.
     pub fn new(a: Point, b: Point, c: Point, k: u32, e: u32) -> Query
         requires k_in { k ≤ 6 }
-        requires e_in { e ≤ 4095 }
+        requires e_in { e ≤ most_epsilon }
         ensures { result ≡ record { a = a; b = b; c = c; k = k; e = e; scale = pos (2 ^ k); reach = pos (e * 2 ^ k * (e * 2 ^ k)) } }
     {
         Query {
@@ -44,7 +45,7 @@ impl Query {
     /// Whether all three points are near to a triangle.
     fn are_near(&self, tri: &Tri) -> bool
         requires query { IsQuery self.now }
-        requires tri_in { IsTriInBox (2 ^ 18) tri.now }
+        requires tri_in { IsTriInBox largest_side tri.now }
         ensures { IsTrue result ↔ IsNear self.now tri.now }
     {
         if !near(self.a, self.k, tri, self.e) {
@@ -86,7 +87,7 @@ impl Query {
     /// The number t, if it is below the limit and the points are near to its triangle; else the limit.
     fn lower(&self, triangles: &[Tri], t: u32, limit: u32) -> u32
         requires query { IsQuery self.now }
-        requires triangles_in { All (IsTriInBox (2 ^ 18)) triangles.now }
+        requires triangles_in { All (IsTriInBox largest_side) triangles.now }
         requires t_in { t < length triangles.now }
         ensures bound { result ≤ limit }
         ensures found { (result ≡ limit) ⊎ IsFound triangles.now self.now result }
@@ -106,7 +107,7 @@ impl Query {
     /// limit; else the limit.
     pub fn least_of(&self, triangles: &[Tri], numbers: &[u32], limit: u32) -> u32
         requires query { IsQuery self.now }
-        requires triangles_in { All (IsTriInBox (2 ^ 18)) triangles.now }
+        requires triangles_in { All (IsTriInBox largest_side) triangles.now }
         requires numbers_in { All (λ t. t < length triangles.now) numbers.now }
         ensures bound { result ≤ limit }
         ensures found { (result ≡ limit) ⊎ IsFound triangles.now self.now result }
@@ -122,7 +123,7 @@ impl Query {
 
 /// The square of the distance e at the scale 2^k.
 fn reach_of(e: u32, k: u32) -> u64
-    requires e_in { e ≤ 4095 }
+    requires e_in { e ≤ most_epsilon }
     requires k_in { k ≤ 6 }
     ensures value { result ≡ e * 2 ^ k * (e * 2 ^ k) }
     ensures within { result ≤ 2 ^ 36 }

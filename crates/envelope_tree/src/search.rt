@@ -1,3 +1,4 @@
+ghost use Rattle.grid.specs.Limits.{largest_side};
 ghost use Rattle.std.specs.Prelude.{◌↔◌, ◌≤◌, ◌^◌, ◌⊎◌, All, IsTrue, IfSome, IfNone, length};
 ghost use Rattle.grid.specs.Boxes.{IsTriInBox};
 ghost use Rattle.grid.specs.Envelopes.{IsLeastNear, HasNoneNear};
@@ -13,7 +14,7 @@ use grid::Tri;
 /// away, and those without a number below the best so far, are left out with all nodes below them.
 pub fn least_near(nodes: &[Node], triangles: &[Tri], query: &Query) -> Option<u32>
     requires few { length triangles.now ≤ 2 ^ 24 }
-    requires triangles_in { All (IsTriInBox (2 ^ 18)) triangles.now }
+    requires triangles_in { All (IsTriInBox largest_side) triangles.now }
     requires tree { IsTree triangles.now nodes.now }
     requires query { IsQuery query.now }
     ensures found { IfSome result (λ t. IsLeastNear triangles.now query.now.a query.now.b query.now.c query.now.k query.now.e t) }

@@ -1,4 +1,5 @@
-ghost use Rattle.std.specs.Prelude.{◌≡◌, ◌^◌, ℕ, ◌<◌, List, All, length};
+ghost use Rattle.grid.specs.Limits.{largest_side};
+ghost use Rattle.std.specs.Prelude.{◌≡◌, ℕ, ◌<◌, List, All, length};
 ghost use Rattle.grid.specs.declared.shapes.Tri.{Tri};
 ghost use Rattle.grid.specs.Boxes.{IsTriInBox};
 ghost use Rattle.envelope_tree.specs.Bounds.{AreInGrid};
@@ -17,7 +18,7 @@ pub struct Summary {
 impl Summary {
     /// That of the triangle of a number.
     pub fn of_one(triangles: &[Tri], number: u32) -> Summary
-        requires triangles_in { All (IsTriInBox (2 ^ 18)) triangles.now }
+        requires triangles_in { All (IsTriInBox largest_side) triangles.now }
         requires number_in { number < length triangles.now }
         ensures fits { Fits triangles.now result number }
         ensures within { AreInGrid result.bounds }

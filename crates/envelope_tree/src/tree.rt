@@ -1,3 +1,4 @@
+ghost use Rattle.grid.specs.Limits.{largest_side};
 ghost use Rattle.std.specs.Prelude.{◌≡◌, ◌^◌, ◌+◌, ◌<◌, ◌≤◌, ℕ, [], length, All, IfOk};
 ghost use Rattle.grid.specs.Boxes.{IsTriInBox};
 ghost use Rattle.envelope_tree.specs.Bounds.{AreInGrid};
@@ -25,7 +26,7 @@ pub struct Node {
 /// The nodes of a tree of all triangles, in postorder.
 pub fn nodes_of(alloc: Global, triangles: &[Tri]) -> Result<Vec<Node>, Memory>
     requires few { length triangles.now ≤ 2 ^ 24 }
-    requires triangles_in { All (IsTriInBox (2 ^ 18)) triangles.now }
+    requires triangles_in { All (IsTriInBox largest_side) triangles.now }
     ensures { IfOk result (λ v. IsTree triangles.now v.items) }
 {
     let mut nodes = Vec::new(alloc);
@@ -45,7 +46,7 @@ fn add(
     triangles: &[Tri],
     numbers: &[u32],
 ) -> Result<Summary, Memory>
-    requires triangles_in { All (IsTriInBox (2 ^ 18)) triangles.now }
+    requires triangles_in { All (IsTriInBox largest_side) triangles.now }
     requires some { 0 < length numbers.now }
     requires numbers_in { All (λ t. t < length triangles.now) numbers.now }
     requires nodes { AreNodes triangles.now nodes.old.items }
@@ -74,7 +75,7 @@ fn add_leaf(
     triangles: &[Tri],
     numbers: &[u32],
 ) -> Result<Summary, Memory>
-    requires triangles_in { All (IsTriInBox (2 ^ 18)) triangles.now }
+    requires triangles_in { All (IsTriInBox largest_side) triangles.now }
     requires some { 0 < length numbers.now }
     requires numbers_in { All (λ t. t < length triangles.now) numbers.now }
     requires nodes { AreNodes triangles.now nodes.old.items }
@@ -92,7 +93,7 @@ fn add_leaf(
 
 /// The bounding box and the least number of these triangles.
 fn summary_of(triangles: &[Tri], numbers: &[u32]) -> Summary
-    requires triangles_in { All (IsTriInBox (2 ^ 18)) triangles.now }
+    requires triangles_in { All (IsTriInBox largest_side) triangles.now }
     requires some { 0 < length numbers.now }
     requires numbers_in { All (λ t. t < length triangles.now) numbers.now }
     ensures fits { All (Fits triangles.now result) numbers.now }

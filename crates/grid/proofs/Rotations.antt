@@ -1,5 +1,5 @@
 -- When two triples of numbers are one oriented face.
-use Rattle.std.proofs.Common.{◌≡◌, ℕ, ◌⊎◌, Bool, true, List, [], ◌∷◌, ◌&&◌, ◌||◌, nat_eq, refl, ap, sym, ◌∙◌, subst, inl, inr}
+use Rattle.std.proofs.Common.{◌≡◌, ℕ, ◌⊎◌, true, List, [], ◌∷◌, ◌&&◌, ◌||◌, nat_eq, refl, ap, sym, ◌∙◌, subst, inl, inr}
 use Rattle.std.proofs.lemmas.Bool.{and_parts, and_from, or_cases, or_left, or_right, false≢true, eqb-true, eq-eqb}
 use Rattle.grid.specs.Simplices.{has, equal3, is_rotation, reversed}
 

@@ -5,6 +5,7 @@ use Rattle.grid.specs.declared.shapes.Point.{Point}
 use Rattle.grid.specs.Simplices.{all_faces, count, same_corners, rising, Rises, IsTet}
 use Rattle.grid.specs.Determinants.{IsPositive, volume}
 use Rattle.grid.specs.Boxes.{IsOnOneSide}
+use Rattle.grid.specs.Limits.{most_points, most_made}
 
 -- points, tetrahedra and tracked triples by their corners, and how many tetrahedra were ever made
 pub record Mesh : Type 0 where
@@ -39,14 +40,6 @@ pub record IsWellFormed (m : Mesh) : Type 0 where
   pub triples_are : All (IsTriple (length m.points)) m.tracked
   pub ordered : Ordered m.tracked
   pub made_is : length m.tets ≤ m.made
-
--- the most points that a mesh may have
-abbrev pub most_points : ℕ
-most_points = 2 ^ 20
-
--- the most tetrahedra that may ever be made
-abbrev pub most_made : ℕ
-most_made = 2 ^ 22
 
 -- the mesh has no more than these
 pub record IsWithinLimits (m : Mesh) : Type 0 where

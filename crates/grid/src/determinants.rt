@@ -1,7 +1,8 @@
 ghost use Rattle.grid.specs.Boxes.{IsInBox};
 ghost use Rattle.grid.specs.Determinants;
 ghost use Rattle.grid.specs.Edges.{IsBetween, IsShort};
-ghost use Rattle.std.specs.Prelude.{◌*ℤ◌, ◌+ℤ◌, ◌-ℤ◌, ◌^◌, ◌≡◌};
+ghost use Rattle.grid.specs.Limits.{largest_side};
+ghost use Rattle.std.specs.Prelude.{◌*ℤ◌, ◌+ℤ◌, ◌-ℤ◌, ◌≡◌};
 
 use crate::shapes::Point;
 
@@ -14,8 +15,8 @@ struct Edge {
 }
 
 fn edge_between(a: Point, b: Point) -> Edge
-    requires a_in { IsInBox (2 ^ 18) a }
-    requires b_in { IsInBox (2 ^ 18) b }
+    requires a_in { IsInBox largest_side a }
+    requires b_in { IsInBox largest_side b }
     ensures { IsBetween a b result }
 {
     Edge {
@@ -37,10 +38,10 @@ fn triple_product(p: Edge, q: Edge, r: Edge) -> i64
 /// Six times the signed volume of the tetrahedron a b c d, in cubed grid steps: the determinant of
 /// b - a, c - a and d - a. Above 0 for a positive tetrahedron.
 pub fn det(a: Point, b: Point, c: Point, d: Point) -> i128
-    requires a_in { IsInBox (2 ^ 18) a }
-    requires b_in { IsInBox (2 ^ 18) b }
-    requires c_in { IsInBox (2 ^ 18) c }
-    requires d_in { IsInBox (2 ^ 18) d }
+    requires a_in { IsInBox largest_side a }
+    requires b_in { IsInBox largest_side b }
+    requires c_in { IsInBox largest_side c }
+    requires d_in { IsInBox largest_side d }
     ensures { result ≡ Determinants.det a b c d }
 {
     triple_product(edge_between(a, b), edge_between(a, c), edge_between(a, d)) as i128
@@ -48,8 +49,8 @@ pub fn det(a: Point, b: Point, c: Point, d: Point) -> i128
 
 /// The squared distance of two points, in squared grid steps.
 pub fn sq_dist(a: Point, b: Point) -> i64
-    requires a_in { IsInBox (2 ^ 18) a }
-    requires b_in { IsInBox (2 ^ 18) b }
+    requires a_in { IsInBox largest_side a }
+    requires b_in { IsInBox largest_side b }
     ensures { result ≡ Determinants.sq_dist a b }
 {
     squared_length(edge_between(b, a))

@@ -5,6 +5,7 @@
 
 mod boxes;
 mod determinants;
+mod limits;
 mod memory;
 mod shapes;
 #[cfg(test)]
@@ -12,5 +13,6 @@ mod tests;
 
 pub use boxes::sides;
 pub use determinants::{det, sq_dist};
+pub use limits::{LARGEST_SIDE, MOST_EPSILON, MOST_INPUT, MOST_MADE, MOST_POINTS};
 pub use memory::Memory;
 pub use shapes::{Face, Point, Tet, Tri};

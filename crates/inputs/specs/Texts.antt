@@ -1,5 +1,6 @@
 -- What the texts of inputs say, and the lines that refuse them.
-use Rattle.std.specs.Prelude.{◌≡◌, ℕ, ◌^◌, nat_lt, if◌then◌else◌, List, ◌++◌, codes, decimal, Option, Result, Ok, Err}
+use Rattle.std.specs.Prelude.{◌≡◌, ℕ, nat_lt, if◌then◌else◌, List, ◌++◌, codes, decimal, Option, Result, Ok, Err}
+use Rattle.grid.specs.Limits.{largest_side}
 use Rattle.soup.specs.declared.raw.Raw.{Raw}
 use Rattle.soup.specs.declared.raw.Soup.{Soup}
 use Rattle.soup.specs.Placement.{extent, room, placed}
@@ -11,10 +12,6 @@ use Rattle.msh_text.specs.Answers as msh
 use Rattle.report_text.specs.declared.report.Report.{Report}
 use Rattle.report_text.specs.Answers as report
 use Rattle.inputs.specs.Readings.{Inputs, Text, file, known, ◌>>=◌}
-
--- the longest side of a box
-abbrev pub longest_side : ℕ
-longest_side = 2 ^ 18
 
 -- ---- the lines of the refusals
 -- what is wrong with a word, up to the end of the line
@@ -65,7 +62,7 @@ SaysReport bytes (Err line) = (n : ℕ) × report.BadLine bytes n × (line ≡ r
 -- the soup in its box; one for which no box has room is refused
 abbrev pub soup_in : (epsilon cells : ℕ) → Raw → Result Soup (List ℕ)
 soup_in epsilon cells raw =
-    if nat_lt longest_side (room raw epsilon)
+    if nat_lt largest_side (room raw epsilon)
     then Err (too_wide_line (extent raw))
     else Ok (placed raw epsilon cells)
 

@@ -1,6 +1,6 @@
 // A soup, placed in its box.
 ghost use Rattle.std.specs.Prelude.{◌≤◌, IfOk, IfSome};
-ghost use Rattle.grid.specs.Limits.{IsCells};
+ghost use Rattle.grid.specs.Limits.{IsCells, most_epsilon};
 ghost use Rattle.mesh_io.specs.Folder.{FolderState};
 ghost use Rattle.soup.specs.Limits.{IsRaw};
 ghost use Rattle.inputs.specs.Answers.{Reads};
@@ -21,7 +21,7 @@ pub fn place_soup<'a>(
     cells: u32,
 ) -> Result<Soup, InputIssue<'a>>
     requires raw { IsRaw raw.now }
-    requires epsilon { (1 ≤ epsilon) × (epsilon ≤ 4095) }
+    requires epsilon { (1 ≤ epsilon) × (epsilon ≤ most_epsilon) }
     requires cells { IsCells cells }
     ensures places { (s : FolderState) → Reads (placed_soup epsilon cells raw.now) s s result }
     ensures placed { IfOk result (IsPlacedFor cells) }
@@ -43,7 +43,7 @@ pub fn read_soup<'a, F: Folder>(
     epsilon: u32,
     cells: u32,
 ) -> Result<Soup, InputIssue<'a>>
-    requires epsilon { (1 ≤ epsilon) × (epsilon ≤ 4095) }
+    requires epsilon { (1 ≤ epsilon) × (epsilon ≤ most_epsilon) }
     requires cells { IsCells cells }
     requires digits { IfSome digits (λ d. d ≤ 5) }
     ensures reads { Reads (soup_file name.now digits epsilon cells) (F.state folder.old) (F.state folder.new) result }

@@ -1,5 +1,5 @@
 -- The store at begin, and the tests of a cut mesh.
-use Rattle.std.proofs.Common.{◌≡◌, ◌⊎◌, ℕ, ◌<◌, ◌^◌, ℤ, None, Some, unwrap_or, List, length, get_or, All, refl, sym, ap, ◌∙◌, subst, inl, inr, arith}
+use Rattle.std.proofs.Common.{◌≡◌, ◌⊎◌, ℕ, ◌<◌, ℤ, None, Some, unwrap_or, List, length, get_or, All, refl, sym, ap, ◌∙◌, subst, inl, inr, arith}
 use Rattle.std.specs.List.{Contains}
 use Rattle.std.proofs.lemmas.List.Elements.{All-contains}
 use Rattle.std.proofs.lemmas.List.{take_all}
@@ -14,6 +14,7 @@ use Rattle.mesh_store.specs.Changes.{IsGrown}
 use Rattle.mesh_store.specs.Parts.{Parts, StoreView, mesh_in, live_tets}
 use Rattle.mesh_store.specs.Sound.{IsSound}
 use Rattle.grid.specs.declared.shapes.Point.{Point}
+use Rattle.grid.specs.Limits.{largest_side}
 use Rattle.insertion.specs.Bare.{IsBare, IsKept, HasNewCorner}
 use Rattle.insertion.specs.Progress.{start_of, closed, IsOpenFrom, IsCut}
 use Rattle.cutting_rule.proofs.Naming.{all-has}
@@ -30,7 +31,7 @@ start-is start side v h = ap (λ o. unwrap_or o v.parts) h.begin
 pub closed-old : (old : StoreView) → old.at_begin ≡ None → closed old.parts old.side ≡ old
 closed-old old e = λ i. record { parts = old.parts; at_begin = sym e i; side = old.side }
 
-pub cut-is : (old begun now : StoreView) (t : Tri) → begun ≡ record old { at_begin = Some old.parts } → IsSound old.side old.parts → All (IsPositive old.parts.points) (live_tets old.parts.slots) → IsOpenFrom old.parts old.side now → IsSound now.side now.parts → mesh_in now.parts ≡ cut_by (mesh_in begun.parts) t → IsWithinLimits (mesh_in now.parts) → ¬ IsDegenerate t → IsTriInBox (2 ^ 18) t → IsCut t now
+pub cut-is : (old begun now : StoreView) (t : Tri) → begun ≡ record old { at_begin = Some old.parts } → IsSound old.side old.parts → All (IsPositive old.parts.points) (live_tets old.parts.slots) → IsOpenFrom old.parts old.side now → IsSound now.side now.parts → mesh_in now.parts ≡ cut_by (mesh_in begun.parts) t → IsWithinLimits (mesh_in now.parts) → ¬ IsDegenerate t → IsTriInBox largest_side t → IsCut t now
 cut-is old begun now t b sound positive h sound_now mesh within area tri_in =
     let s : start_of now ≡ old.parts = start-is old.parts old.side now h in
     record {

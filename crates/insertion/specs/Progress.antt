@@ -1,10 +1,11 @@
 -- A store in the course of an insertion.
-use Rattle.std.specs.Prelude.{◌≡◌, ◌^◌, ℤ, None, Some, unwrap_or, All}
+use Rattle.std.specs.Prelude.{◌≡◌, ℤ, None, Some, unwrap_or, All}
 use Rattle.grid.specs.declared.shapes.Tri.{Tri}
 use Rattle.grid.specs.Boxes.{IsTriInBox}
 use Rattle.grid.specs.Determinants.{IsPositive}
 use Rattle.grid.specs.Meshes.{IsWithinLimits}
 use Rattle.grid.specs.Planes.{IsDegenerate}
+use Rattle.grid.specs.Limits.{largest_side}
 use Rattle.mesh_types.specs.Phases.{cut_by}
 use Rattle.mesh_store.specs.Changes.{IsGrown}
 use Rattle.mesh_store.specs.Parts.{Parts, StoreView, mesh_in, live_tets}
@@ -33,4 +34,4 @@ pub record IsCut (t : Tri) (v : StoreView) : Type 0 where
   pub mesh : mesh_in v.parts ≡ cut_by (mesh_in (start_of v)) t
   pub within : IsWithinLimits (mesh_in v.parts)
   pub some_area : ¬ IsDegenerate t
-  pub tri_in : IsTriInBox (2 ^ 18) t
+  pub tri_in : IsTriInBox largest_side t

@@ -1,5 +1,6 @@
 // A second turn for the triangles that were rolled back.
 ghost use Rattle.grid.specs.Determinants.{IsPositive};
+ghost use Rattle.grid.specs.Limits.{most_epsilon};
 ghost use Rattle.insertion.specs.InTurn.{AreSomeTurns, AreTurns, outcomes_of, triangles_of};
 ghost use Rattle.mesh_store.specs.Parts.{live_tets, mesh_in};
 ghost use Rattle.mesh_types.specs.Turns.{is_rolled_back, rolled_back};
@@ -36,7 +37,7 @@ pub fn second_turn(
     requires positive { All (IsPositive store.old.parts.points) (live_tets store.old.parts.slots) }
     requires one_each { length outcomes.now ≡ length env.now }
     requires e_low { 1 ≤ e }
-    requires e_high { e ≤ 4095 }
+    requires e_high { e ≤ most_epsilon }
     ensures closed { store.new.at_begin ≡ None }
     ensures side { store.new.side ≡ store.old.side }
     ensures triangles { IfOk result (λ again. triangles_of again.items ≡ rolled_back 0 outcomes.now) }

@@ -1,7 +1,8 @@
 ghost use Rattle.grid.specs.Boxes.{IsInBox, IsTriInBox};
+ghost use Rattle.grid.specs.Limits.{largest_side, most_epsilon};
 ghost use Rattle.grid.specs.Planes.{IsDegenerate};
 ghost use Rattle.mesh_store.specs.Changes.{IsSameTransaction};
-ghost use Rattle.std.specs.Prelude.{IfOk, IsSome, None, OnOk, pos, ◌<◌, ◌^◌, ◌≡◌, ◌≤◌};
+ghost use Rattle.std.specs.Prelude.{IfOk, IsSome, None, OnOk, pos, ◌<◌, ◌≡◌, ◌≤◌};
 
 use crate::first::first_inverted;
 use crate::{insert, second_turn};
@@ -40,9 +41,9 @@ fn coarse_store(alloc: Global) -> Result<Store, Memory>
 // Inserts one triangle, where all tetrahedra are positive.
 fn insert_one(alloc: Global, store: &mut Store, tri: Tri, e: u32) -> Result<Option<Outcome>, Memory>
     requires closed { store.old.at_begin ≡ None }
-    requires tri_in { IsTriInBox (2 ^ 18) tri }
+    requires tri_in { IsTriInBox largest_side tri }
     requires e_low { 1 ≤ e }
-    requires e_high { e ≤ 4095 }
+    requires e_high { e ≤ most_epsilon }
 {
     let env = Envelope::build(alloc, &[tri])?;
     match first_inverted(store.slots(), 0) {
@@ -59,7 +60,7 @@ fn try_again(
     outcome: Outcome,
 ) -> Result<Vec<Again>, Memory>
     requires closed { store.old.at_begin ≡ None }
-    requires tri_in { IsTriInBox (2 ^ 18) tri }
+    requires tri_in { IsTriInBox largest_side tri }
 {
     let env = Envelope::build(alloc, &[tri])?;
     match first_inverted(store.slots(), 0) {
@@ -93,7 +94,7 @@ struct Cutting {
 // The number of cuts of each phase, whether an edge is wanted then, and the number of section faces.
 fn cut_one(alloc: Global, store: &mut Store, tri: &Tri) -> Result<Cutting, StoreIssue>
     requires open { IsSome store.old.at_begin }
-    requires tri_in { IsTriInBox (2 ^ 18) tri.now }
+    requires tri_in { IsTriInBox largest_side tri.now }
     requires some_area { ¬ IsDegenerate tri.now }
 {
     let a = phase(alloc, store, tri, 0)?;

@@ -1,5 +1,5 @@
 -- What a split, a shift or a collapse makes is read off the tetrahedra near it.
-use Rattle.std.proofs.Common.{◌≡◌, ◌^◌, ℕ, Bool, true, false, not, ◌&&◌, ◌||◌, cond, List, [], ◌∷◌, ◌++◌, map, length, ℤ, nat_abs, refl, sym, ◌∙◌, ap, ap₂, subst, inl, inr}
+use Rattle.std.proofs.Common.{◌≡◌, ℕ, Bool, true, false, not, ◌&&◌, ◌||◌, cond, List, [], ◌∷◌, ◌++◌, map, length, ℤ, nat_abs, refl, sym, ◌∙◌, ap, ap₂, subst, inl, inr}
 use Rattle.std.specs.List.{filter, flat_map, AllByRecursion as Each}
 use Rattle.std.proofs.lemmas.Bool.{cases_Bool}
 use Rattle.std.proofs.lemmas.List.{append-nil}
@@ -8,6 +8,7 @@ use Rattle.grid.specs.declared.shapes.Point.{Point}
 use Rattle.grid.specs.Boxes.{IsInBox}
 use Rattle.grid.specs.Determinants.{point_at}
 use Rattle.grid.specs.Simplices.{has, replaced, sub}
+use Rattle.grid.specs.Limits.{largest_side}
 use Rattle.mesh_types.specs.declared.tries.Try.{Try}
 use Rattle.mesh_types.specs.declared.tries.Try.TheVariants.{Split, Shift, Collapse}
 use Rattle.mesh_types.specs.Refines.{is_touched, sub_all, refine}
@@ -67,7 +68,7 @@ module _ (side : ℤ) (m : Parts) (sound : IsSound side m) where
       let es = middle_cut (mesh_in m) u v in
       let here = filter (is_touched es) (live_tets m.slots) in
       record {
-        within = subst (IsInBox (2 ^ 18)) (sym e) (in-grid side sound.box (midpoint_floored (point_at m.points u) (point_at m.points v)) (middle-in l (mesh_in m) sound.in_box u v));
+        within = subst (IsInBox largest_side) (sym e) (in-grid side sound.box (midpoint_floored (point_at m.points u) (point_at m.points v)) (middle-in l (mesh_in m) sound.in_box u v));
         at_end = tt;
         points = ap (λ q. m.points ++ q ∷ []) e;
         gone = touched u v;
@@ -79,7 +80,7 @@ module _ (side : ℤ) (m : Parts) (sound : IsSound side m) where
   pub aim-shift : (u way : ℕ) (p : Point) → p ≡ target l (mesh_in m) u way → IsAim l m (Shift u way) p
   unfolding shift
   aim-shift u way p e = record {
-    within = subst (IsInBox (2 ^ 18)) (sym e) (in-grid side sound.box (target l (mesh_in m) u way) (target-in l (mesh_in m) sound.in_box u way));
+    within = subst (IsInBox largest_side) (sym e) (in-grid side sound.box (target l (mesh_in m) u way) (target-in l (mesh_in m) sound.in_box u way));
     at_end = tt;
     points = ap (λ q. m.points ++ q ∷ []) e;
     gone = near-is (Shift u way) m.slots;
@@ -99,7 +100,7 @@ module _ (side : ℤ) (m : Parts) (sound : IsSound side m) where
         ]
       ]
 
-  pub aim-collapse : (u v : ℕ) (p : Point) → p ≡ point_at m.points v → IsInBox (2 ^ 18) p → IsAim l m (Collapse u v) p
+  pub aim-collapse : (u v : ℕ) (p : Point) → p ≡ point_at m.points v → IsInBox largest_side p → IsAim l m (Collapse u v) p
   unfolding collapse
   aim-collapse u v p e within = record {
     within = within;

@@ -9,8 +9,9 @@ use Rattle.grid.specs.declared.shapes.Point.{Point}
 use Rattle.grid.specs.declared.shapes.Tri.{Tri}
 use Rattle.grid.specs.Determinants.{point_at}
 use Rattle.grid.specs.Energy.{energy}
-use Rattle.grid.specs.Meshes.{Mesh, IsWellFormed, most_made, most_points}
+use Rattle.grid.specs.Meshes.{Mesh, IsWellFormed}
 use Rattle.grid.specs.Simplices.{has}
+use Rattle.grid.specs.Limits.{most_points, most_made}
 use Rattle.mesh_types.specs.declared.tries.Try.{Try}
 use Rattle.mesh_types.specs.declared.tries.Try.TheVariants.{Split, Shift, Collapse, FaceSwap, EdgeSwap}
 use Rattle.mesh_types.specs.declared.tries.Why.TheVariants as why

@@ -5,6 +5,7 @@ use Rattle.std.proofs.Math.Nat.{div-lt_iff_lt-mul}
 use Rattle.std.proofs.lemmas.Int.{ints}
 use Rattle.grid.specs.declared.shapes.Point.{Point}
 use Rattle.grid.specs.Boxes.{IsUpTo, IsInBox}
+use Rattle.grid.specs.Limits.{largest_side, most_points}
 use Rattle.mesh_types.specs.Results.{shifted_to}
 use Rattle.mesh_store.specs.Sound.{IsBox}
 use Rattle.local_ops.specs.Smoothing.{mean_of}
@@ -39,30 +40,30 @@ mean-in l n sum some h =
     subst (λ z. IsUpTo l (mean_of z n)) (sym s.is) (up_to l ((2 * s.n + n) / (2 * n)) (rounded s.n n l some s.most))
 
 -- ---- signed readings
-pub small-fits : (z : ℤ) → IsUpTo (2 ^ 18) z → SFits w32 z
-small-fits z h = let n = nat_of (2 ^ 18) z h in subst (SFits w32) (sym n.is) (few n.n n.most)
+pub small-fits : (z : ℤ) → IsUpTo largest_side z → SFits w32 z
+small-fits z h = let n = nat_of largest_side z h in subst (SFits w32) (sym n.is) (few n.n n.most)
   where
-    few : (n : ℕ) → n ≤ 2 ^ 18 → SFits w32 (pos n)
+    few : (n : ℕ) → n ≤ largest_side → SFits w32 (pos n)
     few n l = search rules
 
-pub sum-fits : (z : ℤ) (n : ℕ) → n ≤ 2 ^ 20 → IsUpTo (2 ^ 18 * n) z → SFits w64 z
-sum-fits z n l h = let m = nat_of (2 ^ 18 * n) z h in subst (SFits w64) (sym m.is) (few m.n (below m.n n m.most l))
+pub sum-fits : (z : ℤ) (n : ℕ) → n ≤ most_points → IsUpTo (largest_side * n) z → SFits w64 z
+sum-fits z n l h = let m = nat_of (largest_side * n) z h in subst (SFits w64) (sym m.is) (few m.n (below m.n n m.most l))
   where
-    below : (m n : ℕ) → m ≤ 2 ^ 18 * n → n ≤ 2 ^ 20 → m ≤ 2 ^ 38
+    below : (m n : ℕ) → m ≤ largest_side * n → n ≤ most_points → m ≤ 2 ^ 38
     below m n h l = omega arith
 
     few : (n : ℕ) → n ≤ 2 ^ 38 → SFits w64 (pos n)
     few n l = search rules
 
 -- a point of a box on the grid
-pub in-grid : (side : ℤ) → IsBox side → (p : Point) → IsInBox (nat_abs side) p → IsInBox (2 ^ 18) p
+pub in-grid : (side : ℤ) → IsBox side → (p : Point) → IsInBox (nat_abs side) p → IsInBox largest_side p
 in-grid side b p h = record { x_in = wider p.x h.x_in; y_in = wider p.y h.y_in; z_in = wider p.z h.z_in }
   where
-    wider : (z : ℤ) → IsUpTo (nat_abs side) z → IsUpTo (2 ^ 18) z
+    wider : (z : ℤ) → IsUpTo (nat_abs side) z → IsUpTo largest_side z
     wider z h = let low = b.low in let high = b.high in let g = h.high in record { low = h.low; high = omega (arith, ints, low, high, g) }
 
 -- where a coordinate goes, read through the words of the machine
-pub shifted-is : (r side from mean sum : ℤ) (way n : ℕ) → SFits w32 r → SFits w32 side → IsUpTo (2 ^ 18) from → IsUpTo (2 ^ 18) mean → n ≤ 2 ^ 20 → IsUpTo (2 ^ 18 * n) sum
+pub shifted-is : (r side from mean sum : ℤ) (way n : ℕ) → SFits w32 r → SFits w32 side → IsUpTo largest_side from → IsUpTo largest_side mean → n ≤ most_points → IsUpTo (largest_side * n) sum
     → r ≡ shifted_to (nat_abs (to_z w32 (of_z w32 side))) way (to_z w32 (of_z w32 from)) (to_z w32 (of_z w32 mean)) → mean ≡ mean_of (to_z w64 (of_z w64 sum)) n
     → to_z w32 (of_z w32 r) ≡ shifted_to (nat_abs side) way from (mean_of sum n)
 shifted-is r side from mean sum way n fr fs hf hm l hs e k =

@@ -2,8 +2,8 @@
 use Rattle.std.proofs.Common.{◌≡◌, ℕ, ◌+◌, ◌≤◌, ◌<◌, false, ◌||◌, List, [], ◌∷◌, Some, length, ℤ, refl, ◌∙◌, ap, arith, append-nil}
 use Rattle.std.specs.List.{find, list_all}
 use Rattle.grid.specs.declared.shapes.Tri.{Tri}
-use Rattle.grid.specs.Meshes.{most_made}
 use Rattle.grid.specs.Simplices.{IsTet, replaced}
+use Rattle.grid.specs.Limits.{most_made}
 use Rattle.mesh_types.specs.declared.tries.Try.TheVariants.{FaceSwap}
 use Rattle.mesh_types.specs.declared.tries.Verdict.TheVariants.{Refused}
 use Rattle.mesh_types.specs.declared.tries.Why.TheVariants as why

@@ -7,8 +7,8 @@ use Rattle.std.proofs.lemmas.Int.{ints}
 use Rattle.std.proofs.lemmas.List.Elements.{recursion_from_All}
 use Rattle.grid.specs.declared.shapes.Tri.{Tri}
 use Rattle.grid.specs.Determinants.{IsPositive}
-use Rattle.grid.specs.Meshes.{most_made}
 use Rattle.grid.specs.Simplices.{has, count, faces}
+use Rattle.grid.specs.Limits.{most_made}
 use Rattle.mesh_types.specs.declared.tries.Try.TheVariants.{FaceSwap}
 use Rattle.mesh_types.specs.declared.tries.Verdict.TheVariants.{Refused}
 use Rattle.mesh_types.specs.declared.tries.Why.TheVariants as why

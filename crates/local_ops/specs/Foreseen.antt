@@ -1,5 +1,5 @@
 -- What a try would make, as it is told from the mesh before.
-use Rattle.std.specs.Prelude.{◌≡◌, ◌^◌, ℕ, Bool, ◌&&◌, cond, nat_eq, nat_lt, ℤ, pos, List, [], ◌∷◌, ◌++◌, map, length}
+use Rattle.std.specs.Prelude.{◌≡◌, ℕ, Bool, ◌&&◌, cond, nat_eq, nat_lt, ℤ, pos, List, [], ◌∷◌, ◌++◌, map, length}
 use Rattle.std.specs.List.{flat_map, list_all}
 use Rattle.grid.specs.declared.shapes.Point.{Point}
 use Rattle.grid.specs.Boxes.{IsInBox}
@@ -7,6 +7,7 @@ use Rattle.grid.specs.Determinants.{point_at, det}
 use Rattle.grid.specs.Energy.{energy}
 use Rattle.grid.specs.Meshes.{Mesh}
 use Rattle.grid.specs.Simplices.{has, replaced}
+use Rattle.grid.specs.Limits.{largest_side}
 use Rattle.mesh_types.specs.declared.tries.Try.{Try}
 use Rattle.mesh_types.specs.declared.tries.Try.TheVariants.{Split, Shift, Collapse}
 use Rattle.mesh_types.specs.declared.tries.Verdict.TheVariants as verdict
@@ -58,7 +59,7 @@ near_tets t slots = map (corners_at slots) (numbers_of (may_go t) 0 slots)
 
 -- the result of the try is read off these tetrahedra, with its new corners at p
 pub record IsAim (l : ℕ) (m : Parts) (t : Try) (p : Point) : Type 0 where
-  pub within : IsInBox (2 ^ 18) p
+  pub within : IsInBox largest_side p
   pub at_end : IsAtEnd t m.points p
   pub points : points_with t p m.points ≡ (result_of l (mesh_in m) t).mesh.points
   pub gone : near_tets t m.slots ≡ (result_of l (mesh_in m) t).gone

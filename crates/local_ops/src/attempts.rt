@@ -1,3 +1,4 @@
+ghost use Rattle.grid.specs.Limits.{most_epsilon};
 ghost use Rattle.local_ops.specs.Attempts.{IsBefore, IsMade, PassesBelow, may_go, start_of};
 ghost use Rattle.mesh_store.specs.Parts.{mesh_in};
 ghost use Rattle.mesh_store.specs.Sound.{IsSound};
@@ -31,7 +32,7 @@ pub fn attempt(
     requires candidate { is_candidate (mesh_in store.old.parts).tets attempt ≡ true }
     requires positive { AllPositive (mesh_in store.old.parts) }
     requires e_least { 1 ≤ e }
-    requires e_most { e ≤ 4095 }
+    requires e_most { e ≤ most_epsilon }
     ensures verdict { IfOk result (λ v. IsVerdict (setting env.now e store.old.side) (mesh_in store.old.parts) attempt v) }
     ensures mesh { IfOk result (λ v. mesh_in store.new.parts ≡ after (nat_abs store.old.side) (mesh_in store.old.parts) (line attempt v)) }
     ensures memory { OnErr result (mesh_in store.new.parts ≡ mesh_in store.old.parts) }
@@ -61,7 +62,7 @@ pub fn attempt_on_once(
     requires positive { AllPositive (mesh_in store.old.parts) }
     requires once { NoFaceTwice (mesh_in store.old.parts) }
     requires e_least { 1 ≤ e }
-    requires e_most { e ≤ 4095 }
+    requires e_most { e ≤ most_epsilon }
     ensures verdict { IfOk result (λ v. IsVerdict (setting env.now e store.old.side) (mesh_in store.old.parts) attempt v) }
     ensures mesh { IfOk result (λ v. mesh_in store.new.parts ≡ after (nat_abs store.old.side) (mesh_in store.old.parts) (line attempt v)) }
     ensures memory { OnErr result (mesh_in store.new.parts ≡ mesh_in store.old.parts) }
@@ -89,7 +90,7 @@ fn try_out(
     requires candidate { is_candidate (mesh_in store.old.parts).tets attempt ≡ true }
     requires positive { AllPositive (mesh_in store.old.parts) }
     requires once { IsTrue once → NoFaceTwice (mesh_in store.old.parts) }
-    requires e_most { e ≤ 4095 }
+    requires e_most { e ≤ most_epsilon }
     ensures verdict { IfOk result (λ v. IsVerdict (setting env.now e store.old.side) (mesh_in store.old.parts) attempt v) }
     ensures mesh { IfOk result (λ v. mesh_in store.new.parts ≡ after (nat_abs store.old.side) (mesh_in store.old.parts) (line attempt v)) }
     ensures memory { OnErr result (mesh_in store.new.parts ≡ mesh_in store.old.parts) }
@@ -117,7 +118,7 @@ fn make(
     requires candidate { is_candidate (mesh_in store.old.parts).tets attempt ≡ true }
     requires positive { AllPositive (mesh_in store.old.parts) }
     requires once { IsTrue once → NoFaceTwice (mesh_in store.old.parts) }
-    requires e_most { e ≤ 4095 }
+    requires e_most { e ≤ most_epsilon }
     requires passed { PassesBelow (setting env.now e store.old.side) (mesh_in store.old.parts) attempt 3 }
     ensures verdict { IfOk result (λ v. IsVerdict (setting env.now e store.old.side) (mesh_in store.old.parts) attempt v) }
     ensures mesh { IfOk result (λ v. mesh_in store.new.parts ≡ after (nat_abs store.old.side) (mesh_in store.old.parts) (line attempt v)) }
@@ -147,7 +148,7 @@ fn make_so(
     requires sound { IsSound store.old.side store.old.parts }
     requires candidate { is_candidate (mesh_in store.old.parts).tets attempt ≡ true }
     requires positive { AllPositive (mesh_in store.old.parts) }
-    requires e_most { e ≤ 4095 }
+    requires e_most { e ≤ most_epsilon }
     requires near { near.items ≡ numbers_of (may_go attempt) 0 store.old.parts.slots }
     requires passed { PassesBelow (setting env.now e store.old.side) (mesh_in store.old.parts) attempt 3 }
     requires better { IsTrue better → PassesBelow (setting env.now e store.old.side) (mesh_in store.old.parts) attempt 7 }
@@ -175,7 +176,7 @@ fn settle(
     before: Before,
     better: bool,
 ) -> Result<Verdict, Memory>
-    requires e_in { e ≤ 4095 }
+    requires e_in { e ≤ most_epsilon }
     requires made { IsMade attempt store.old }
     requires before { IsBefore attempt (start_of store.old) before }
     requires passed { PassesBelow (setting env.now e store.old.side) (mesh_in (start_of store.old)) attempt 4 }

@@ -1,5 +1,5 @@
 // Verdicts that are seen without making the try.
-ghost use Rattle.grid.specs.Meshes.{most_made, most_points};
+ghost use Rattle.grid.specs.Limits.{most_points, most_made};
 ghost use Rattle.grid.specs.declared.shapes.Tri.{Tri};
 ghost use Rattle.local_ops.specs.Attempts.{may_go};
 ghost use Rattle.local_ops.specs.Foreseen.{IsAim, IsSight};
@@ -17,15 +17,11 @@ use crate::moving::{are_better, are_positive};
 use crate::smoothing::{midpoint, target};
 use crate::swapping::{are_three_positive, sides_of_face};
 use crate::worsening::is_seen_worse;
-use grid::{Memory, Point};
+use grid::{MOST_MADE, MOST_POINTS, Memory, Point};
 use mesh_store::Store;
 use mesh_types::{Try, Why};
 use std::alloc::Global;
 use tet_slots::Slots;
-
-const MOST_POINTS: u32 = 1 << 20;
-
-const MOST_MADE: u64 = 1 << 22;
 
 /// What is seen of a try before it is made.
 #[derive(Clone, Copy)]
@@ -188,7 +184,7 @@ fn seen(store: &Store, attempt: Try, near: &[u32], at: Point, single: bool) -> S
 fn has_room_for_three(slots: &Slots) -> bool
     ensures { IsTrue result → length slots.now.slots + 3 ≤ most_made }
 {
-    slots.made() as u64 + 3 <= MOST_MADE
+    slots.made() as u64 + 3 <= u64::from(MOST_MADE)
 }
 
 /// Whether one point more, and two tetrahedra for each of these slots, pass no limit.
@@ -200,5 +196,5 @@ fn has_room(slots: &Slots, near: &[u32]) -> bool
     if slots.points() >= MOST_POINTS {
         return false;
     }
-    slots.made() as u64 + 2 * near.len() as u64 <= MOST_MADE
+    slots.made() as u64 + 2 * near.len() as u64 <= u64::from(MOST_MADE)
 }

@@ -1,4 +1,5 @@
 // The verdict on a try that was made.
+ghost use Rattle.grid.specs.Limits.{most_epsilon};
 ghost use Rattle.local_ops.specs.Attempts.{IsBefore, IsMade, PassesBelow, start_of};
 ghost use Rattle.mesh_store.specs.Parts.{mesh_in};
 ghost use Rattle.mesh_types.specs.Journals.{setting};
@@ -26,7 +27,7 @@ pub(crate) fn judge(
     before: &Before,
     better: bool,
 ) -> Result<Verdict, Memory>
-    requires e_in { e ≤ 4095 }
+    requires e_in { e ≤ most_epsilon }
     requires made { IsMade attempt store.now }
     requires before { IsBefore attempt (start_of store.now) before.now }
     requires passed { PassesBelow (setting env.now e store.now.side) (mesh_in (start_of store.now)) attempt 4 }
@@ -51,7 +52,7 @@ fn judge_positive(
     attempt: Try,
     before: &Before,
 ) -> Result<Verdict, Memory>
-    requires e_in { e ≤ 4095 }
+    requires e_in { e ≤ most_epsilon }
     requires made { IsMade attempt store.now }
     requires before { IsBefore attempt (start_of store.now) before.now }
     requires passed { PassesBelow (setting env.now e store.now.side) (mesh_in (start_of store.now)) attempt 5 }
@@ -72,7 +73,7 @@ fn judge_single(
     attempt: Try,
     before: &Before,
 ) -> Result<Verdict, Memory>
-    requires e_in { e ≤ 4095 }
+    requires e_in { e ≤ most_epsilon }
     requires made { IsMade attempt store.now }
     requires before { IsBefore attempt (start_of store.now) before.now }
     requires passed { PassesBelow (setting env.now e store.now.side) (mesh_in (start_of store.now)) attempt 6 }
@@ -94,7 +95,7 @@ fn judge_better(
     attempt: Try,
     before: &Before,
 ) -> Result<Verdict, Memory>
-    requires e_in { e ≤ 4095 }
+    requires e_in { e ≤ most_epsilon }
     requires made { IsMade attempt store.now }
     requires before { IsBefore attempt (start_of store.now) before.now }
     requires passed { PassesBelow (setting env.now e store.now.side) (mesh_in (start_of store.now)) attempt 7 }

@@ -1,12 +1,13 @@
 // The tetrahedra that a split, a shift or a collapse would make of those that it replaces.
 ghost use Rattle.grid.specs.Boxes.{IsInBox};
 ghost use Rattle.grid.specs.Determinants.{IsPositive};
+ghost use Rattle.grid.specs.Limits.{largest_side};
 ghost use Rattle.grid.specs.Simplices.{IsTet};
 ghost use Rattle.local_ops.specs.Foreseen.{IsAtEnd, are_lower, become_lower, become_positive, det_with, energy_with, moved_at};
 ghost use Rattle.local_ops.specs.Measures.{corners_at};
 ghost use Rattle.std.specs.Int.Signed.{lt_z};
 ghost use Rattle.std.specs.List.{list_all};
-ghost use Rattle.std.specs.Prelude.{All, length, map, pos, true, ◌<◌, ◌<ℤ◌, ◌^◌, ◌≡◌};
+ghost use Rattle.std.specs.Prelude.{All, length, map, pos, true, ◌<◌, ◌<ℤ◌, ◌≡◌};
 
 use crate::measures::largest_at;
 use energy::energy;
@@ -16,8 +17,8 @@ use tet_slots::Slots;
 
 /// Whether the tetrahedra in these slots become positive ones, where the new corner is at this point.
 pub(crate) fn are_positive(slots: &Slots, attempt: Try, near: &[u32], at: Point) -> bool
-    requires in_box { All (IsInBox (2 ^ 18)) slots.now.points }
-    requires within { IsInBox (2 ^ 18) at }
+    requires in_box { All (IsInBox largest_side) slots.now.points }
+    requires within { IsInBox largest_side at }
     requires at_end { IsAtEnd attempt slots.now.points at }
     requires there { All (λ i. i < length slots.now.slots) near.now }
     ensures { result ≡ list_all (become_positive attempt at slots.now.points) (map (corners_at slots.now.slots) near.now) }
@@ -31,8 +32,8 @@ pub(crate) fn are_positive(slots: &Slots, attempt: Try, near: &[u32], at: Point)
 }
 
 fn becomes_positive(slots: &Slots, attempt: Try, tet: Tet, at: Point) -> bool
-    requires in_box { All (IsInBox (2 ^ 18)) slots.now.points }
-    requires within { IsInBox (2 ^ 18) at }
+    requires in_box { All (IsInBox largest_side) slots.now.points }
+    requires within { IsInBox largest_side at }
     requires at_end { IsAtEnd attempt slots.now.points at }
     requires there { IsTet (length slots.now.points) tet.0 }
     ensures { result ≡ become_positive attempt at slots.now.points tet.0 }
@@ -49,8 +50,8 @@ fn becomes_positive(slots: &Slots, attempt: Try, tet: Tet, at: Point) -> bool
 
 /// Whether the tetrahedron is positive with its corner u at the point.
 fn is_positive_with(slots: &Slots, tet: Tet, u: u32, at: Point) -> bool
-    requires in_box { All (IsInBox (2 ^ 18)) slots.now.points }
-    requires within { IsInBox (2 ^ 18) at }
+    requires in_box { All (IsInBox largest_side) slots.now.points }
+    requires within { IsInBox largest_side at }
     requires there { IsTet (length slots.now.points) tet.0 }
     ensures { result ≡ lt_z (pos 0) (det_with slots.now.points u at tet.0) }
 {
@@ -58,8 +59,8 @@ fn is_positive_with(slots: &Slots, tet: Tet, u: u32, at: Point) -> bool
 }
 
 fn det_with(slots: &Slots, tet: Tet, u: u32, at: Point) -> i128
-    requires in_box { All (IsInBox (2 ^ 18)) slots.now.points }
-    requires within { IsInBox (2 ^ 18) at }
+    requires in_box { All (IsInBox largest_side) slots.now.points }
+    requires within { IsInBox largest_side at }
     requires there { IsTet (length slots.now.points) tet.0 }
     ensures { result ≡ det_with slots.now.points u at tet.0 }
 {
@@ -74,19 +75,19 @@ fn det_with(slots: &Slots, tet: Tet, u: u32, at: Point) -> i128
 
 /// The point of a corner, where u is at the given one.
 fn moved(slots: &Slots, corner: u32, u: u32, at: Point) -> Point
-    requires in_box { All (IsInBox (2 ^ 18)) slots.now.points }
-    requires within { IsInBox (2 ^ 18) at }
+    requires in_box { All (IsInBox largest_side) slots.now.points }
+    requires within { IsInBox largest_side at }
     requires there { corner < length slots.now.points }
     ensures value { result ≡ moved_at slots.now.points u at corner }
-    ensures within { IsInBox (2 ^ 18) result }
+    ensures within { IsInBox largest_side result }
 {
     if corner == u { at } else { slots.point(corner) }
 }
 
 /// Whether each of the tetrahedra that these become has less energy than the one of these that has most.
 pub(crate) fn are_better(slots: &Slots, attempt: Try, near: &[u32], at: Point) -> bool
-    requires in_box { All (IsInBox (2 ^ 18)) slots.now.points }
-    requires within { IsInBox (2 ^ 18) at }
+    requires in_box { All (IsInBox largest_side) slots.now.points }
+    requires within { IsInBox largest_side at }
     requires at_end { IsAtEnd attempt slots.now.points at }
     requires there { All (λ i. i < length slots.now.slots) near.now }
     requires positive { All (λ i. IsPositive slots.now.points (corners_at slots.now.slots i)) near.now }
@@ -102,8 +103,8 @@ pub(crate) fn are_better(slots: &Slots, attempt: Try, near: &[u32], at: Point) -
 
 /// Whether each of the tetrahedra that these become has less energy than this.
 fn are_below(slots: &Slots, attempt: Try, near: &[u32], at: Point, most: u128) -> bool
-    requires in_box { All (IsInBox (2 ^ 18)) slots.now.points }
-    requires within { IsInBox (2 ^ 18) at }
+    requires in_box { All (IsInBox largest_side) slots.now.points }
+    requires within { IsInBox largest_side at }
     requires at_end { IsAtEnd attempt slots.now.points at }
     requires there { All (λ i. i < length slots.now.slots) near.now }
     requires signs { All (λ i. become_positive attempt at slots.now.points (corners_at slots.now.slots i) ≡ true) near.now }
@@ -118,8 +119,8 @@ fn are_below(slots: &Slots, attempt: Try, near: &[u32], at: Point, most: u128) -
 }
 
 fn becomes_lower(slots: &Slots, attempt: Try, tet: Tet, at: Point, most: u128) -> bool
-    requires in_box { All (IsInBox (2 ^ 18)) slots.now.points }
-    requires within { IsInBox (2 ^ 18) at }
+    requires in_box { All (IsInBox largest_side) slots.now.points }
+    requires within { IsInBox largest_side at }
     requires at_end { IsAtEnd attempt slots.now.points at }
     requires there { IsTet (length slots.now.points) tet.0 }
     requires signs { become_positive attempt at slots.now.points tet.0 ≡ true }
@@ -137,8 +138,8 @@ fn becomes_lower(slots: &Slots, attempt: Try, tet: Tet, at: Point, most: u128) -
 
 /// The energy of the tetrahedron with its corner u at the point.
 fn energy_with(slots: &Slots, tet: Tet, u: u32, at: Point) -> u128
-    requires in_box { All (IsInBox (2 ^ 18)) slots.now.points }
-    requires within { IsInBox (2 ^ 18) at }
+    requires in_box { All (IsInBox largest_side) slots.now.points }
+    requires within { IsInBox largest_side at }
     requires there { IsTet (length slots.now.points) tet.0 }
     requires positive { pos 0 <ℤ det_with slots.now.points u at tet.0 }
     ensures { result ≡ energy_with slots.now.points u at tet.0 }

@@ -1,5 +1,6 @@
 // Where a shift moves a point to.
 ghost use Rattle.grid.specs.Boxes.{IsInBox, IsUpTo};
+ghost use Rattle.grid.specs.Limits.{largest_side, most_points};
 ghost use Rattle.local_ops.specs.Measures.{corners_at};
 ghost use Rattle.local_ops.specs.Smoothing.{IsSum, IsSumUpTo, corners_but, mean_of, moved_to};
 ghost use Rattle.mesh_store.specs.Parts.{mesh_in};
@@ -66,7 +67,7 @@ fn moved(store: &Store, around: &[u32], u: u32, way: u8) -> Point
     requires u_there { u < length store.now.parts.points }
     requires there { All (λ w. w < length store.now.parts.points) around.now }
     requires some { 0 < length around.now }
-    requires few { length around.now ≤ 2 ^ 20 }
+    requires few { length around.now ≤ most_points }
     ensures { result ≡ moved_to (nat_abs store.now.side) store.now.parts.points u around.now way }
 {
     let sum = added(store.slots(), around);
@@ -81,10 +82,10 @@ fn moved(store: &Store, around: &[u32], u: u32, way: u8) -> Point
 
 /// Where a point goes between so many points of this sum.
 fn moved_from(from: Point, sum: Sum, count: u32, side: i32, way: u8) -> Point
-    requires from_in { IsInBox (2 ^ 18) from }
+    requires from_in { IsInBox largest_side from }
     requires some { 0 < count }
-    requires few { count ≤ 2 ^ 20 }
-    requires sum_in { IsSumUpTo (2 ^ 18 * count) sum }
+    requires few { count ≤ most_points }
+    requires sum_in { IsSumUpTo (largest_side * count) sum }
     requires side_low { pos 0 ≤ℤ side }
     ensures { result ≡ record {
       x = shifted_to (nat_abs side) way from.x (mean_of sum.x count);
@@ -108,10 +109,10 @@ struct Sum {
 
 fn added(slots: &Slots, around: &[u32]) -> Sum
     requires there { All (λ w. w < length slots.now.points) around.now }
-    requires in_box { All (IsInBox (2 ^ 18)) slots.now.points }
-    requires few { length around.now ≤ 2 ^ 20 }
+    requires in_box { All (IsInBox largest_side) slots.now.points }
+    requires few { length around.now ≤ most_points }
     ensures value { IsSum slots.now.points around.now result }
-    ensures within { IsSumUpTo (2 ^ 18 * length around.now) result }
+    ensures within { IsSumUpTo (largest_side * length around.now) result }
 {
     let mut sum = Sum { x: 0, y: 0, z: 0 };
     for w in around {
@@ -122,7 +123,7 @@ fn added(slots: &Slots, around: &[u32]) -> Sum
 
 fn plus(sum: Sum, p: Point) -> Sum
     requires sum_in { IsSumUpTo (2 ^ 40) sum }
-    requires p_in { IsInBox (2 ^ 18) p }
+    requires p_in { IsInBox largest_side p }
     ensures x { result.x ≡ sum.x +ℤ p.x }
     ensures y { result.y ≡ sum.y +ℤ p.y }
     ensures z { result.z ≡ sum.z +ℤ p.z }
@@ -136,10 +137,10 @@ fn plus(sum: Sum, p: Point) -> Sum
 /// The mean, rounded to the nearest whole number, a half going up.
 fn mean(sum: i64, count: u32) -> i32
     requires some { 0 < count }
-    requires few { count ≤ 2 ^ 20 }
-    requires sum_in { IsUpTo (2 ^ 18 * count) sum }
+    requires few { count ≤ most_points }
+    requires sum_in { IsUpTo (largest_side * count) sum }
     ensures value { result ≡ mean_of sum count }
-    ensures within { IsUpTo (2 ^ 18) result }
+    ensures within { IsUpTo largest_side result }
 {
     rounded(sum, count as i64) as i32
 }
@@ -147,7 +148,7 @@ fn mean(sum: i64, count: u32) -> i32
 fn rounded(sum: i64, count: i64) -> i64
     requires sum_in { IsUpTo (2 ^ 38) sum }
     requires some { pos 1 ≤ℤ count }
-    requires few { count ≤ℤ pos (2 ^ 20) }
+    requires few { count ≤ℤ pos most_points }
     ensures { result ≡ int_div_euclid (pos 2 *ℤ sum +ℤ count) (pos 2 *ℤ count) }
 {
     (2 * sum + count).div_euclid(2 * count)
@@ -155,8 +156,8 @@ fn rounded(sum: i64, count: i64) -> i64
 
 /// Where a coordinate goes.
 fn shifted(from: i32, mean: i32, side: i32, way: u8) -> i32
-    requires from_in { IsUpTo (2 ^ 18) from }
-    requires mean_in { IsUpTo (2 ^ 18) mean }
+    requires from_in { IsUpTo largest_side from }
+    requires mean_in { IsUpTo largest_side mean }
     requires side_low { pos 0 ≤ℤ side }
     ensures { result ≡ shifted_to (nat_abs side) way from mean }
 {
@@ -171,8 +172,8 @@ fn shifted(from: i32, mean: i32, side: i32, way: u8) -> i32
 
 /// Half of the way from one to the other, rounded down.
 fn half_way(a: i32, b: i32) -> i32
-    requires a_in { IsUpTo (2 ^ 18) a }
-    requires b_in { IsUpTo (2 ^ 18) b }
+    requires a_in { IsUpTo largest_side a }
+    requires b_in { IsUpTo largest_side b }
     ensures { result ≡ half_way a b }
 {
     (a + b).div_euclid(2)
@@ -180,8 +181,8 @@ fn half_way(a: i32, b: i32) -> i32
 
 /// The midpoint, rounded down.
 pub(crate) fn midpoint(p: Point, q: Point) -> Point
-    requires p_in { IsInBox (2 ^ 18) p }
-    requires q_in { IsInBox (2 ^ 18) q }
+    requires p_in { IsInBox largest_side p }
+    requires q_in { IsInBox largest_side q }
     ensures { result ≡ midpoint_floored p q }
 {
     let x = half_way(p.x, q.x);

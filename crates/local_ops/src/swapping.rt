@@ -1,10 +1,11 @@
 // The tetrahedra that a face swap would make.
 ghost use Rattle.grid.specs.Boxes.{IsInBox};
+ghost use Rattle.grid.specs.Limits.{largest_side};
 ghost use Rattle.grid.specs.Simplices.{IsTet, replaced};
 ghost use Rattle.local_ops.specs.Measures.{is_positive};
 ghost use Rattle.local_ops.specs.Swaps.{AreSidesIfAny};
 ghost use Rattle.std.specs.List.{list_all};
-ghost use Rattle.std.specs.Prelude.{All, [], length, ◌^◌, ◌∷◌, ◌≡◌};
+ghost use Rattle.std.specs.Prelude.{All, [], length, ◌∷◌, ◌≡◌};
 ghost use Rattle.tet_slots.specs.Searches.{has_edge, numbers_of};
 
 use crate::measures::is_positive;
@@ -45,7 +46,7 @@ pub(crate) fn sides_of_face(slots: &Slots, near: &[u32], a: u32, b: u32, c: u32)
 
 /// Whether the tetrahedron is positive with the apex in place of each of the three corners.
 pub(crate) fn are_three_positive(slots: &Slots, tet: Tet, a: u32, b: u32, c: u32, apex: u32) -> bool
-    requires in_box { All (IsInBox (2 ^ 18)) slots.now.points }
+    requires in_box { All (IsInBox largest_side) slots.now.points }
     requires at_a { IsTet (length slots.now.points) (replaced a apex tet.0) }
     requires at_b { IsTet (length slots.now.points) (replaced b apex tet.0) }
     requires at_c { IsTet (length slots.now.points) (replaced c apex tet.0) }

@@ -1,12 +1,13 @@
 // Whether a face swap makes worse, as it is told from the mesh before.
 ghost use Rattle.grid.specs.Boxes.{IsInBox};
 ghost use Rattle.grid.specs.Determinants.{IsPositive};
+ghost use Rattle.grid.specs.Limits.{largest_side};
 ghost use Rattle.grid.specs.Simplices.{IsTet, count, faces, replaced};
 ghost use Rattle.grid.specs.Views.{corners_of};
 ghost use Rattle.local_ops.specs.Swaps.{AreSides, IsSeenWorse, are_below, are_new_once, has_new_once, is_new_once};
 ghost use Rattle.mesh_store.specs.Exchanges.{tet_in};
 ghost use Rattle.std.specs.List.{list_all};
-ghost use Rattle.std.specs.Prelude.{All, IfOk, IsTrue, [], false, length, ◌<◌, ◌^◌, ◌∷◌, ◌≡◌, ◌≤◌};
+ghost use Rattle.std.specs.Prelude.{All, IfOk, IsTrue, [], false, length, ◌<◌, ◌∷◌, ◌≡◌, ◌≤◌};
 ghost use Rattle.tet_slots.specs.Searches.{has_edge, numbers_of};
 
 use crate::apart::is_face;
@@ -30,7 +31,7 @@ pub(crate) fn is_seen_worse(
     b: u32,
     c: u32,
 ) -> Result<bool, Memory>
-    requires in_box { All (IsInBox (2 ^ 18)) slots.now.points }
+    requires in_box { All (IsInBox largest_side) slots.now.points }
     requires first { sides.first < length slots.now.slots }
     requires second { sides.second < length slots.now.slots }
     requires first_positive { IsPositive slots.now.points (tet_in slots.now.slots sides.first) }
@@ -124,7 +125,7 @@ fn count_of(tets: &[Tet], face: Face) -> u64
 
 /// Whether the energies of p, q and r are below the larger one of x and y.
 fn are_below(slots: &Slots, x: Tet, y: Tet, p: Tet, q: Tet, r: Tet) -> bool
-    requires in_box { All (IsInBox (2 ^ 18)) slots.now.points }
+    requires in_box { All (IsInBox largest_side) slots.now.points }
     requires x_there { IsTet (length slots.now.points) x.0 }
     requires y_there { IsTet (length slots.now.points) y.0 }
     requires p_there { IsTet (length slots.now.points) p.0 }

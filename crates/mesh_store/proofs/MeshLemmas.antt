@@ -5,9 +5,10 @@ use Rattle.std.specs.Str.{bytes_eq}
 use Rattle.std.proofs.lemmas.List.{length-map, take_at}
 use Rattle.std.proofs.lemmas.List.Elements.{All-from_recursion, recursion_from_All}
 use Rattle.std.proofs.lemmas.List.Folds.{list_any-append}
-use Rattle.grid.specs.Meshes.{IsTriple, IsWellFormed, IsWithinLimits, most_points, most_made}
+use Rattle.grid.specs.Meshes.{IsTriple, IsWellFormed, IsWithinLimits}
 use Rattle.grid.specs.Simplices.{IsTet}
 use Rattle.grid.specs.Views.{triples_of}
+use Rattle.grid.specs.Limits.{most_points, most_made}
 use Rattle.mesh_types.specs.declared.cut.Cut.{Cut}
 use Rattle.mesh_types.specs.CutLists.{AreCuts}
 use Rattle.mesh_types.specs.Refines.{in_order, refine}

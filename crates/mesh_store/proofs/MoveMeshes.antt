@@ -5,9 +5,10 @@ use Rattle.std.proofs.lemmas.Bool.{cases_Bool, false_from_ne_true}
 use Rattle.std.proofs.lemmas.List.{length-map, length_push, take_at}
 use Rattle.std.proofs.lemmas.List.Elements.{recursion_from_All}
 use Rattle.grid.specs.declared.shapes.Point.{Point}
-use Rattle.grid.specs.Meshes.{IsTriple, IsWithinLimits, most_points, most_made}
+use Rattle.grid.specs.Meshes.{IsTriple, IsWithinLimits}
 use Rattle.grid.specs.Simplices.{IsTet, has, replaced, rising}
 use Rattle.grid.specs.Views.{triples_of}
+use Rattle.grid.specs.Limits.{most_points, most_made}
 use Rattle.mesh_types.specs.Results.{shift, collapse}
 use Rattle.mesh_types.specs.Tracking.{in_order_once}
 use Rattle.mesh_types.proofs.Each.{Each-weaker}

@@ -5,8 +5,9 @@ use Rattle.std.proofs.lemmas.List.Elements.{All-push, All-set}
 use Rattle.grid.specs.Boxes.{IsInBox}
 use Rattle.grid.specs.declared.shapes.Face.{Face}
 use Rattle.grid.specs.declared.shapes.Point.{Point}
-use Rattle.grid.specs.Meshes.{IsTriple, most_points, most_made}
+use Rattle.grid.specs.Meshes.{IsTriple}
 use Rattle.grid.specs.Simplices.{IsTet}
+use Rattle.grid.specs.Limits.{most_points, most_made}
 use Rattle.tet_slots.specs.declared.slot.Slot.{Slot}
 use Rattle.tet_slots.specs.Slots.{slot_at, no_slot}
 use Rattle.tet_slots.proofs.SlotLemmas.{killed-length}

@@ -4,8 +4,9 @@ use Rattle.std.specs.List.{find, flat_map, AllByRecursion as Each}
 use Rattle.std.proofs.lemmas.Bool.{cases_Bool, and_from, and_parts, or_cases, true≢false}
 use Rattle.std.proofs.lemmas.List.{length-map}
 use Rattle.std.proofs.lemmas.List.Elements.{recursion_from_All}
-use Rattle.grid.specs.Meshes.{Mesh, IsWithinLimits, most_made}
+use Rattle.grid.specs.Meshes.{Mesh, IsWithinLimits}
 use Rattle.grid.specs.Simplices.{IsTet, has, replaced}
+use Rattle.grid.specs.Limits.{most_made}
 use Rattle.mesh_types.specs.Results.{edge_swap, face_swap, first_outside, has_face, is_across, without}
 use Rattle.mesh_types.proofs.Each.{Each-weaker}
 use Rattle.mesh_types.proofs.Kept.{IsTet-from}

@@ -1,10 +1,11 @@
 -- What always holds of a store's parts.
-use Rattle.std.specs.Prelude.{◌≡◌, ◌≤◌, ◌^◌, ℤ, pos, ◌≤ℤ◌, nat_abs, length, All}
+use Rattle.std.specs.Prelude.{◌≡◌, ◌≤◌, ℤ, pos, ◌≤ℤ◌, nat_abs, length, All}
 use Rattle.std.specs.List.{IsDistinct}
 use Rattle.std.specs.Map.{keys_of}
 use Rattle.grid.specs.Boxes.{IsInBox}
-use Rattle.grid.specs.Meshes.{IsTriple, IsWellFormed, IsWithinLimits, most_points, most_made}
+use Rattle.grid.specs.Meshes.{IsTriple, IsWellFormed, IsWithinLimits}
 use Rattle.grid.specs.Simplices.{IsTet}
+use Rattle.grid.specs.Limits.{largest_side, most_points, most_made}
 use Rattle.mesh_types.specs.declared.lists.Lists.{Lists}
 use Rattle.mesh_types.specs.Views.{mesh_of}
 use Rattle.mesh_store.specs.Parts.{Parts}
@@ -13,7 +14,7 @@ use Rattle.tracked.specs.Keys.{same_face}
 -- the side of a box on the grid
 pub record IsBox (side : ℤ) : Type 0 where
   pub low : pos 0 ≤ℤ side
-  pub high : side ≤ℤ pos (2 ^ 18)
+  pub high : side ≤ℤ pos largest_side
 
 -- within the limits, the points in the box, each slot four different points, each key a rising triple of points, and no key twice
 pub record IsSound (side : ℤ) (m : Parts) : Type 0 where

@@ -1,5 +1,6 @@
 // The parts of a new store.
-ghost use Rattle.grid.specs.Meshes.{IsTriple, Ordered, most_made, most_points};
+ghost use Rattle.grid.specs.Limits.{most_points, most_made};
+ghost use Rattle.grid.specs.Meshes.{IsTriple, Ordered};
 ghost use Rattle.grid.specs.Simplices.{IsTet};
 ghost use Rattle.grid.specs.Views.{corners_of, triples_of};
 ghost use Rattle.mesh_store.specs.Parts.{live_slot};

@@ -1,9 +1,10 @@
 -- Sums of coordinates, one number after the other, and that they fit their types.
-use Rattle.std.proofs.Common.{◌≡◌, ℕ, zero, suc, ◌+◌, ◌^◌, ◌<◌, ◌≤◌, ℤ, ◌+ℤ◌, pos, List, [], ◌∷◌, length, get_or, drop, SFits, sym, subst, arith, rules}
+use Rattle.std.proofs.Common.{◌≡◌, ℕ, zero, suc, ◌+◌, ◌<◌, ◌≤◌, ℤ, ◌+ℤ◌, pos, List, [], ◌∷◌, length, get_or, drop, SFits, sym, subst, arith, rules}
 use mir.Syntax.{w32}
 use Rattle.int_algebra.proofs.Laws.{linear}
 use Rattle.std.proofs.lemmas.Int.{ints}
 use Rattle.grid.specs.Boxes.{IsUpTo}
+use Rattle.grid.specs.Limits.{largest_side}
 use Rattle.mesh_types.specs.Results.{sum_at}
 use Rattle.mesh_types.proofs.Inside.{nat_of}
 
@@ -25,8 +26,8 @@ IsUpTo-sum m n acc z new h g e =
     record { low = omega (arith, linear, a, c, e); high = omega (arith, ints, a, b, c, d, e) }
 
 -- ---- signed readings
-pub small-fits : (z : ℤ) → IsUpTo (2 ^ 18) z → SFits w32 z
-small-fits z h = let n = nat_of (2 ^ 18) z h in subst (SFits w32) (sym n.is) (few n.n n.most)
+pub small-fits : (z : ℤ) → IsUpTo largest_side z → SFits w32 z
+small-fits z h = let n = nat_of largest_side z h in subst (SFits w32) (sym n.is) (few n.n n.most)
   where
-    few : (n : ℕ) → n ≤ 2 ^ 18 → SFits w32 (pos n)
+    few : (n : ℕ) → n ≤ largest_side → SFits w32 (pos n)
     few n l = search rules

@@ -3,13 +3,13 @@ use Rattle.std.proofs.Common.{◌≡◌, ℕ, ◌^◌, ◌≤◌, ℤ, pos, nat_
 use Rattle.std.proofs.Math.Nat.{pow-le-pow_right}
 use Rattle.int_algebra.proofs.Laws.{linear}
 use Rattle.grid.specs.Boxes.{IsInBox}
-use Rattle.grid.specs.Limits.{IsSide}
+use Rattle.grid.specs.Limits.{IsSide, largest_side}
 use Rattle.grid.specs.Meshes.{IsWellFormed, IsWithinLimits}
 use Rattle.mesh_types.specs.declared.lists.Lists.{Lists}
 use Rattle.mesh_types.specs.Views.{mesh_of}
 use Rattle.mesh_store.specs.Sound.{IsBox, IsFirstMesh}
 
-box-at : (n : ℕ) → n ≤ 262144 → IsBox (pos n)
+box-at : (n : ℕ) → n ≤ largest_side → IsBox (pos n)
 box-at n h = record { low = omega (arith, linear); high = omega (arith, linear) }
 
 box-of : (side : ℤ) → IsSide side → IsBox side

@@ -1,11 +1,12 @@
 // The certificates of the tracked faces.
 ghost use Rattle.grid.specs.Boxes.{IsInBox, IsTriInBox};
+ghost use Rattle.grid.specs.Limits.{largest_side, most_epsilon, most_points};
 ghost use Rattle.grid.specs.Meshes.{IsTriple};
 ghost use Rattle.grid.specs.Views.{triples_of};
 ghost use Rattle.mesh_types.specs.Verdicts.{face_at};
 ghost use Rattle.msh_text.specs.FileMesh.{face_of};
 ghost use Rattle.mesher.specs.Meshed.{AreCoverings, HasItsCertificate, IsCoveringOf};
-ghost use Rattle.std.specs.Prelude.{All, IfOk, length, ◌^◌, ◌≡◌, ◌≤◌};
+ghost use Rattle.std.specs.Prelude.{All, IfOk, length, ◌≡◌, ◌≤◌};
 
 use cover::find;
 use envelope_tree::Envelope;
@@ -16,9 +17,9 @@ use std::alloc::Global;
 // The corners of a tracked face.
 fn corners(points: &[Point], face: Face) -> Tri
     requires there { IsTriple (length points.now) face.0 }
-    requires in_box { All (IsInBox (2 ^ 18)) points.now }
+    requires in_box { All (IsInBox largest_side) points.now }
     ensures value { result ≡ face_at points.now face.0 }
-    ensures within { IsTriInBox (2 ^ 18) result }
+    ensures within { IsTriInBox largest_side result }
 {
     let Face([a, b, c]) = face;
     Tri([points[a as usize], points[b as usize], points[c as usize]])
@@ -27,7 +28,7 @@ fn corners(points: &[Point], face: Face) -> Tri
 // A tracked face by the numbers that the file gives to its corners.
 fn numbered(points: &[Point], face: Face) -> Face
     requires there { IsTriple (length points.now) face.0 }
-    requires few { length points.now ≤ 2 ^ 20 }
+    requires few { length points.now ≤ most_points }
     ensures { result ≡ face_of face.0 }
 {
     let Face([a, b, c]) = face;
@@ -43,9 +44,9 @@ fn covering(
     e: u32,
 ) -> Result<Covering, Memory>
     requires there { IsTriple (length points.now) face.0 }
-    requires few { length points.now ≤ 2 ^ 20 }
-    requires in_box { All (IsInBox (2 ^ 18)) points.now }
-    requires e_in { e ≤ 4095 }
+    requires few { length points.now ≤ most_points }
+    requires in_box { All (IsInBox largest_side) points.now }
+    requires e_in { e ≤ most_epsilon }
     requires covered { HasItsCertificate env.now e points.now face.0 }
     ensures { IfOk result (IsCoveringOf env.now e points.now face.0) }
 {
@@ -67,9 +68,9 @@ pub(crate) fn coverings(
     e: u32,
 ) -> Result<Vec<Covering>, Memory>
     requires there { All (IsTriple (length points.now)) (triples_of faces.now) }
-    requires few { length points.now ≤ 2 ^ 20 }
-    requires in_box { All (IsInBox (2 ^ 18)) points.now }
-    requires e_in { e ≤ 4095 }
+    requires few { length points.now ≤ most_points }
+    requires in_box { All (IsInBox largest_side) points.now }
+    requires e_in { e ≤ most_epsilon }
     requires covered { All (HasItsCertificate env.now e points.now) (triples_of faces.now) }
     ensures { IfOk result (λ made. AreCoverings env.now e points.now (triples_of faces.now) made.items) }
 {

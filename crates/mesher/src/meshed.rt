@@ -1,5 +1,5 @@
 ghost use Rattle.grid.specs.Boxes.{IsTriInBox};
-ghost use Rattle.grid.specs.Limits.{IsCells, IsSide};
+ghost use Rattle.grid.specs.Limits.{IsCells, IsSide, largest_side, most_epsilon};
 ghost use Rattle.mesher.specs.Meshed.{IsMeshed};
 ghost use Rattle.std.specs.Prelude.{All, IfOk, length, pos, ◌*◌, ◌^◌, ◌≤ℤ◌, ◌≤◌};
 
@@ -43,9 +43,9 @@ pub fn mesh_soup(
     requires side { IsSide soup.now.side }
     requires room { pos (4 * cells) ≤ℤ soup.now.side }
     requires few { length soup.now.triangles ≤ 2 ^ 24 }
-    requires inside { All (IsTriInBox (2 ^ 18)) soup.now.triangles }
+    requires inside { All (IsTriInBox largest_side) soup.now.triangles }
     requires e_least { 1 ≤ epsilon }
-    requires e_most { epsilon ≤ 4095 }
+    requires e_most { epsilon ≤ most_epsilon }
     requires budget_most { budget ≤ 1000000 }
     ensures { IfOk result (IsMeshed soup.now epsilon cells budget) }
 {

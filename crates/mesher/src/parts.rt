@@ -1,4 +1,5 @@
 // The parts of a run: triangles in turn, and then tries within a budget.
+ghost use Rattle.grid.specs.Limits.{most_epsilon};
 ghost use Rattle.grid.specs.Meshes.{Tiles};
 ghost use Rattle.mesh_store.specs.Parts.{mesh_in};
 ghost use Rattle.mesh_types.specs.Journals.{AllCovered, setting};
@@ -37,7 +38,7 @@ pub(crate) fn first_part(
     requires closed { store.old.at_begin ≡ None }
     requires tiles { Tiles (mesh_in store.old.parts) (nat_abs store.old.side) }
     requires e_least { 1 ≤ e }
-    requires e_most { e ≤ 4095 }
+    requires e_most { e ≤ most_epsilon }
     requires budget_most { budget ≤ 1000000 }
     ensures closed { store.new.at_begin ≡ None }
     ensures side { store.new.side ≡ store.old.side }
@@ -72,7 +73,7 @@ pub(crate) fn second_part(
     requires tiles { Tiles (mesh_in store.old.parts) (nat_abs store.old.side) }
     requires one_each { length outcomes.now ≡ length env.now }
     requires e_least { 1 ≤ e }
-    requires e_most { e ≤ 4095 }
+    requires e_most { e ≤ most_epsilon }
     requires budget_most { budget ≤ 1000000 }
     ensures closed { store.new.at_begin ≡ None }
     ensures side { store.new.side ≡ store.old.side }

@@ -1,5 +1,6 @@
 //! A cube without one triangle, in the midst of a box of side 16: its open side has a rim.
 ghost use Rattle.grid.specs.Boxes.{IsInBox, IsTriInBox};
+ghost use Rattle.grid.specs.Limits.{largest_side};
 ghost use Rattle.grid.specs.Meshes.{Tiles};
 ghost use Rattle.mesh_store.specs.Parts.{mesh_in};
 ghost use Rattle.std.specs.Prelude.{All, IfOk, None, length, nat_abs, pos, ◌^◌, ◌≡◌, ◌≤◌, ◌≤ℤ◌};
@@ -50,7 +51,7 @@ fn coordinate(is_far: bool) -> i32
 }
 
 fn corner(number: u8) -> Point
-    ensures { IsInBox (2 ^ 18) result }
+    ensures { IsInBox largest_side result }
 {
     Point {
         x: coordinate(number & 1 != 0),
@@ -60,7 +61,7 @@ fn corner(number: u8) -> Point
 }
 
 fn tri(a: u8, b: u8, c: u8) -> Tri
-    ensures { IsTriInBox (2 ^ 18) result }
+    ensures { IsTriInBox largest_side result }
 {
     Tri([corner(a), corner(b), corner(c)])
 }
@@ -82,7 +83,7 @@ const CORNERS: [[u8; 3]; 11] = [
 
 fn open_cube(alloc: Global) -> Result<Vec<Tri>, Memory>
     ensures few { IfOk result (λ v. length v.items ≤ 2 ^ 24) }
-    ensures inside { IfOk result (λ v. All (IsTriInBox (2 ^ 18)) v.items) }
+    ensures inside { IfOk result (λ v. All (IsTriInBox largest_side) v.items) }
 {
     let mut triangles = Vec::new(alloc);
     for i in 0..CORNERS.len() {

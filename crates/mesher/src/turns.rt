@@ -1,5 +1,6 @@
 // Triangles inserted in turn.
 ghost use Rattle.grid.specs.Determinants.{IsPositive};
+ghost use Rattle.grid.specs.Limits.{most_epsilon};
 ghost use Rattle.insertion.specs.InTurn.{AreSomeTurns, AreTurns};
 ghost use Rattle.mesh_store.specs.Parts.{live_tets, mesh_in};
 ghost use Rattle.std.specs.List.{range_with_len};
@@ -23,7 +24,7 @@ pub(crate) fn insert_all(
     requires closed { store.old.at_begin ≡ None }
     requires positive { All (IsPositive store.old.parts.points) (live_tets store.old.parts.slots) }
     requires e_low { 1 ≤ e }
-    requires e_high { e ≤ 4095 }
+    requires e_high { e ≤ most_epsilon }
     ensures closed { store.new.at_begin ≡ None }
     ensures side { store.new.side ≡ store.old.side }
     ensures turns { IfOk result (λ os. AreTurns env.now e (range_with_len 0 (length env.now)) (mesh_in store.old.parts) os.items (mesh_in store.new.parts)) }

@@ -1,5 +1,5 @@
 -- A mesh with the plain facts keeps the rules of its text.
-use Rattle.std.proofs.Common.{◌≡◌, ℕ, ◌+◌, ◌^◌, ◌<◌, ◌≤◌, true, false, List, [], ◌∷◌, ◌++◌, length, map, All, get_or, refl, sym, ap, subst, arith}
+use Rattle.std.proofs.Common.{◌≡◌, ℕ, ◌+◌, ◌<◌, ◌≤◌, true, false, List, [], ◌∷◌, ◌++◌, length, map, All, get_or, refl, sym, ap, subst, arith}
 use Rattle.std.specs.Prelude.{codes, ℤ, pos, ◌==◌}
 use Rattle.std.specs.List.{AllByRecursion as Each}
 use Rattle.std.proofs.lemmas.Bool.{true≢false, eqb-true}
@@ -8,6 +8,7 @@ use Rattle.std.proofs.lemmas.List.Folds.{Any-from_list_any}
 use Rattle.grid.specs.declared.shapes.Face.{Face}
 use Rattle.grid.specs.Simplices.{Rises}
 use Rattle.grid.specs.Meshes.{is_below, Ordered}
+use Rattle.grid.specs.Limits.{most_points}
 use Rattle.lines.specs.Forms.{repeat}
 use Rattle.lines.proofs.ForCallers.{CanSay, says_done, says_field, says_then, says_fixed, says_lines, says_rows, says_all, is_text, three_items, four_items}
 use Rattle.msh_text.specs.declared.file_mesh.MshNode.{MshNode}
@@ -57,10 +58,10 @@ numbers_rise nodes are rise =
 
 -- ---- elements
 module _ (nodes : List MshNode) (nodes_are : All IsFileNode nodes) where
-  node_few : (c : ℕ) → is_node nodes c ≡ true → c ≤ 2 ^ 20
+  node_few : (c : ℕ) → is_node nodes c ≡ true → c ≤ most_points
   node_few c is =
       let any = Any-from_list_any (λ (node : MshNode). node.number == c) nodes is in
-      let few : any.1.number ≤ 2 ^ 20 = (subst IsFileNode any.3 (nodes_are any.0 any.1 any.2)).in_range.1 in
+      let few : any.1.number ≤ most_points = (subst IsFileNode any.3 (nodes_are any.0 any.1 any.2)).in_range.1 in
       omega (arith, few, eqb-true any.1.number c any.4)
 
   -- a corner of an element

@@ -3,6 +3,7 @@ use Rattle.std.specs.Prelude.{◌≡◌, ℕ, ◌+◌, ◌*◌, ◌^◌, ◌≤�
 use Rattle.grid.specs.declared.shapes.Face.{Face}
 use Rattle.grid.specs.Simplices.{Rises}
 use Rattle.grid.specs.Meshes.{Ordered}
+use Rattle.grid.specs.Limits.{most_points}
 use Rattle.lines.specs.Fields.{Between, Within}
 use Rattle.msh_text.specs.declared.file_mesh.MshNode.{MshNode}
 use Rattle.msh_text.specs.declared.file_mesh.MshTet.{MshTet}
@@ -11,7 +12,7 @@ use Rattle.msh_text.specs.Rules.{is_node, MshRules}
 
 -- a node: its number is from 1 to 2^20, and none of its three coordinates is above 2 * 10^9 in absolute value
 pub record IsFileNode (node : MshNode) : Type 0 where
-  pub in_range : Between 1 (2 ^ 20) node.number
+  pub in_range : Between 1 most_points node.number
   pub three : length node.at ≡ 3
   pub near : All (Within (2 * 10 ^ 9)) node.at
 
@@ -34,7 +35,7 @@ pub record IsFileFace (nodes : List MshNode) (face : Face) : Type 0 where
 -- a mesh as it stands in a file with d digits behind the point: the numbers of its nodes rise, and its triangles stand in strictly rising order
 pub record IsFileMesh (d : ℕ) (m : MshMesh) : Type 0 where
   pub digits_are : m.digits ≡ d
-  pub nodes_few : length m.nodes ≤ 2 ^ 20
+  pub nodes_few : length m.nodes ≤ most_points
   pub elements_few : length m.tets + length m.tracked ≤ 2 ^ 24
   pub nodes_are : All IsFileNode m.nodes
   pub numbers_rise : Rises (map (λ node. node.number) m.nodes)

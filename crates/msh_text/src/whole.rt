@@ -11,8 +11,9 @@ ghost use Rattle.msh_text.specs.declared.file_mesh.MshMesh.{MshMesh};
 use crate::elements::read_elements;
 use crate::file_mesh::MshMesh;
 use crate::issue::MshIssue;
-use crate::marks::{MOST_NODES, node_marks};
+use crate::marks::node_marks;
 use crate::read::read_nodes;
+use grid::MOST_POINTS;
 use items::Items;
 use lines::{Stop, line_at, read_fixed, read_lines, read_number};
 use std::alloc::Global;
@@ -50,11 +51,11 @@ fn read_whole(alloc: Global, bytes: &[u8], d: u32) -> Result<(MshMesh, &[u8]), S
     ensures digits { IfOk result (λ r. r.0.digits ≡ d) }
 {
     let rest = read_head(bytes)?;
-    let (count, rest) = read_number(rest, b'\n', 0, MOST_NODES)?;
+    let (count, rest) = read_number(rest, b'\n', 0, MOST_POINTS)?;
     let (nodes, rest) = read_nodes(alloc, rest, count, d)?;
     let rest = read_middle(rest)?;
     let (count, rest) = read_number(rest, b'\n', 0, MOST_ELEMENTS)?;
-    let marks = node_marks(alloc, &nodes, MOST_NODES)?;
+    let marks = node_marks(alloc, &nodes, MOST_POINTS)?;
     let (elements, rest) = read_elements(alloc, rest, count, &marks)?;
     let rest = read_fixed(rest, b"$EndElements\n")?;
     Ok((

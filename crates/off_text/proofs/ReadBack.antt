@@ -4,6 +4,7 @@ use Rattle.std.proofs.lemmas.List.Elements.{recursion_from_All}
 use Rattle.std.specs.Prelude.{decimal as written, codes}
 use Rattle.std.specs.Fmt.{signed_decimal}
 use Rattle.std.specs.List.{flat_map, AllByRecursion}
+use Rattle.grid.specs.Limits.{most_input}
 use Rattle.int_algebra.specs.Within.{IsWithin}
 use Rattle.soup.specs.declared.raw.Raw.{Raw}
 use Rattle.soup.specs.Limits.{IsVertex, IsFaceBelow, IsRaw}
@@ -66,19 +67,19 @@ vertices_read end p (v ∷ vs) rest h k =
     )
 
 -- ---- faces
-read_index : (end p b n c : ℕ) (rest : List ℕ) → c < n → n ≤ 2 ^ 20 → IsBreak b → next (index n) end (words_from false p (written c ++ b ∷ rest)) ≡ Ok (c, words_from false (after p (written c)) rest)
+read_index : (end p b n c : ℕ) (rest : List ℕ) → c < n → n ≤ most_input → IsBreak b → next (index n) end (words_from false p (written c ++ b ∷ rest)) ≡ Ok (c, words_from false (after p (written c)) rest)
 read_index end p b n c rest below few k = read_next (index n) end p b (written c) rest c (number_token c (omega (arith, below, few))) k (λ w is. index_said n w c is below few)
 
 three_token : IsToken (codes "3")
 three_token = record { some = omega arith; inner = refl }
 
 -- the words of the third corner and behind it
-third : (end p n a b : ℕ) (rest : List ℕ) → a < n → b < n → n ≤ 2 ^ 20 → drop 2 (words_from false p (written a ++ 32 ∷ (written b ++ 32 ∷ rest))) ≡ words_from false (after (after p (written a)) (written b)) rest
+third : (end p n a b : ℕ) (rest : List ℕ) → a < n → b < n → n ≤ most_input → drop 2 (words_from false p (written a ++ 32 ∷ (written b ++ 32 ∷ rest))) ≡ words_from false (after (after p (written a)) (written b)) rest
 third end p n a b rest ha hb few =
     ap (drop 2) (token_step p 32 (written a) (written b ++ 32 ∷ rest) (number_token a (omega (arith, ha, few))) space)
     ∙ ap (drop 1) (token_step (after p (written a)) 32 (written b) rest (number_token b (omega (arith, hb, few))) space)
 
-corners_read : (end p n a b c : ℕ) (rest : List ℕ) → a < n → b < n → c < n → n ≤ 2 ^ 20
+corners_read : (end p n a b c : ℕ) (rest : List ℕ) → a < n → b < n → c < n → n ≤ most_input
     → several (index n) end 3 (words_from false p (written a ++ 32 ∷ (written b ++ 32 ∷ (written c ++ 10 ∷ rest)))) ≡ Ok (a ∷ b ∷ c ∷ [])
 unfolding several
 corners_read end p n a b c rest ha hb hc few =
@@ -88,7 +89,7 @@ corners_read end p n a b c rest ha hb hc few =
     ∙ ap (λ said. (said >>= λ x. several (index n) end 1 x.1 >>= λ xs. Ok (x.0 ∷ xs)) >>= λ xs. Ok (a ∷ xs)) (read_index end q 32 n b (written c ++ 10 ∷ rest) hb few space)
     ∙ ap (λ said. ((said >>= λ x. several (index n) end 0 x.1 >>= λ xs. Ok (x.0 ∷ xs)) >>= λ xs. Ok (b ∷ xs)) >>= λ xs. Ok (a ∷ xs)) (read_index end r 10 n c rest hc few feed)
 
-face_read : (end p n made a b c : ℕ) (rest : List ℕ) → a < n → b < n → c < n → n ≤ 2 ^ 20 → made + 1 ≤ 2 ^ 20
+face_read : (end p n made a b c : ℕ) (rest : List ℕ) → a < n → b < n → c < n → n ≤ most_input → made + 1 ≤ most_input
     → (q : ℕ) × (face end n made (words_from false p (51 ∷ 32 ∷ (written a ++ 32 ∷ (written b ++ 32 ∷ (written c ++ 10 ∷ rest))))) ≡ Ok ((a ∷ b ∷ c ∷ []) ∷ [], words_from false q rest))
 unfolding face fan_on
 face_read end p n made a b c rest ha hb hc few room =
@@ -109,7 +110,7 @@ three_corners (a ∷ b ∷ []) h = absurd (omega (arith, h))
 three_corners (a ∷ b ∷ c ∷ []) h = refl
 three_corners (a ∷ b ∷ c ∷ d ∷ fs) h = absurd (omega (arith, h))
 
-face_line_read : (end p n made : ℕ) (f rest : List ℕ) → IsFaceBelow n f → length f ≡ 3 → n ≤ 2 ^ 20 → made + 1 ≤ 2 ^ 20 → (q : ℕ) × (face end n made (words_from false p (face_line f ++ rest)) ≡ Ok (f ∷ [], words_from false q rest))
+face_line_read : (end p n made : ℕ) (f rest : List ℕ) → IsFaceBelow n f → length f ≡ 3 → n ≤ most_input → made + 1 ≤ most_input → (q : ℕ) × (face end n made (words_from false p (face_line f ++ rest)) ≡ Ok (f ∷ [], words_from false q rest))
 face_line_read end p n made f rest h three few room =
     let read = face_read end p n made (slice_index f 0) (slice_index f 1) (slice_index f 2) rest h.a_in h.b_in h.c_in few room in (
       read.0,
@@ -118,7 +119,7 @@ face_line_read end p n made f rest h three few room =
           ∙ ap (λ (g : List ℕ). Ok (g ∷ [], words_from false read.0 rest)) (three_corners f three),
     )
 
-faces_read : (end p n made : ℕ) (fs : List (List ℕ)) → AllByRecursion (IsFaceBelow n) fs → AllByRecursion (λ f. length f ≡ 3) fs → n ≤ 2 ^ 20 → made + length fs ≤ 2 ^ 20
+faces_read : (end p n made : ℕ) (fs : List (List ℕ)) → AllByRecursion (IsFaceBelow n) fs → AllByRecursion (λ f. length f ≡ 3) fs → n ≤ most_input → made + length fs ≤ most_input
     → faces end n (length fs) made (words_from false p (flat_map face_line fs)) ≡ Ok fs
 unfolding faces
 faces_read end p n made [] h k few room = refl

@@ -19,6 +19,7 @@ use Rattle.off_text.specs.Scans.{rest_at}
 use Rattle.off_text.specs.Gives.{Gives}
 use Rattle.off_text.specs.declared.issue.OffIssue.{OffIssue}
 use Rattle.std.specs.Prelude.{IfOk}
+use Rattle.grid.specs.Limits.{most_input}
 use Rattle.off_text.proofs.Whole.{reads_is, with_faces, with_points, with_edges, with_face_count, with_vertex_count}
 
 -- ---- what comes before an Ok
@@ -48,14 +49,14 @@ next_said said end (w ∷ ws) x is =
     (w, h.1 ∙ ap (λ y. Ok y.0) (ok_is {E = Refusal} (h.0, ws) x h.2))
 
 -- ---- counts
-count_few : (w : Word) (n : ℕ) → count w ≡ Ok n → n ≤ 2 ^ 20
+count_few : (w : Word) (n : ℕ) → count w ≡ Ok n → n ≤ most_input
 count_few w n is =
     let number = guard_ok (not (is_number w.bytes)) _ _ n is in
-    let few = guard_ok (nat_lt (2 ^ 20) (decimal w.bytes)) _ _ n number.1 in
+    let few = guard_ok (nat_lt most_input (decimal w.bytes)) _ _ n number.1 in
     let same : decimal w.bytes ≡ n = ok_is {E = Refusal} (decimal w.bytes) n few.1 in
-    omega (arith, same, ltb-false (2 ^ 20) (decimal w.bytes) few.0)
+    omega (arith, same, ltb-false most_input (decimal w.bytes) few.0)
 
-first_count_few : (w : Word) (n : ℕ) → first_count w ≡ Ok n → n ≤ 2 ^ 20
+first_count_few : (w : Word) (n : ℕ) → first_count w ≡ Ok n → n ≤ most_input
 first_count_few w n is = count_few w n (guard_ok (bytes_eq w.bytes (codes "BINARY")) _ _ n is).1
 
 -- ---- vertices
@@ -142,17 +143,17 @@ fan_below n k (a ∷ b ∷ cs) least is h =
 
 record IsCorners (made k : ℕ) : Type 0 where
   least : 3 ≤ k
-  few : made + (k - 2) ≤ 2 ^ 20
+  few : made + (k - 2) ≤ most_input
 
 corner_count_few : (made : ℕ) (w : Word) (k : ℕ) → corner_count made w ≡ Ok k → IsCorners made k
 corner_count_few made w k is =
     let number = guard_ok (not (is_number w.bytes)) _ _ k is in
     let long = guard_ok (nat_lt (decimal w.bytes) 3) _ _ k number.1 in
-    let few = guard_ok (nat_lt (2 ^ 20) (made + (decimal w.bytes - 2))) _ _ k long.1 in
+    let few = guard_ok (nat_lt most_input (made + (decimal w.bytes - 2))) _ _ k long.1 in
     let same : decimal w.bytes ≡ k = ok_is {E = Refusal} (decimal w.bytes) k few.1 in
-    subst (IsCorners made) same (record { least = ltb-false (decimal w.bytes) 3 long.0; few = ltb-false (2 ^ 20) (made + (decimal w.bytes - 2)) few.0 })
+    subst (IsCorners made) same (record { least = ltb-false (decimal w.bytes) 3 long.0; few = ltb-false most_input (made + (decimal w.bytes - 2)) few.0 })
 
-face_below : (end n made : ℕ) (ws : List Word) (ts : List (List ℕ) × List Word) → face end n made ws ≡ Ok ts → (made + length ts.0 ≤ 2 ^ 20) × AllByRecursion (IsFaceBelow n) ts.0
+face_below : (end n made : ℕ) (ws : List Word) (ts : List (List ℕ) × List Word) → face end n made ws ≡ Ok ts → (made + length ts.0 ≤ most_input) × AllByRecursion (IsFaceBelow n) ts.0
 unfolding face
 face_below end n made ws ts is =
     let number = bind_ok (next (corner_count made) end ws) (λ number. several (index n) end number.0 number.1 >>= λ corners. Ok (fan corners, beyond_line (drop (number.0 - 1) number.1))) ts is in
@@ -162,21 +163,21 @@ face_below end n made ws ts is =
     let below = several_below n end number.0.0 number.0.1 corners.0 corners.1 in
     let f = fan_below n number.0.0 corners.0 limits.least below.0 below.1 in
     let out : List (List ℕ) × List Word = (fan corners.0, beyond_line (drop (number.0.0 - 1) number.0.1)) in
-    subst (λ (u : List (List ℕ) × List Word). (made + length u.0 ≤ 2 ^ 20) × AllByRecursion (IsFaceBelow n) u.0) (ok_is {E = Refusal} out ts corners.2) (omega (arith, limits.few, f.0), f.1)
+    subst (λ (u : List (List ℕ) × List Word). (made + length u.0 ≤ most_input) × AllByRecursion (IsFaceBelow n) u.0) (ok_is {E = Refusal} out ts corners.2) (omega (arith, limits.few, f.0), f.1)
 
 all_joined : (n : ℕ) (xs ys : List (List ℕ)) → AllByRecursion (IsFaceBelow n) xs → AllByRecursion (IsFaceBelow n) ys → AllByRecursion (IsFaceBelow n) (xs ++ ys)
 all_joined n [] ys h k = k
 all_joined n (x ∷ xs) ys h k = (h.0, all_joined n xs ys h.1 k)
 
-pub faces_below : (end n f made : ℕ) (ws : List Word) (ts : List (List ℕ)) → made ≤ 2 ^ 20 → faces end n f made ws ≡ Ok ts → (made + length ts ≤ 2 ^ 20) × AllByRecursion (IsFaceBelow n) ts
+pub faces_below : (end n f made : ℕ) (ws : List Word) (ts : List (List ℕ)) → made ≤ most_input → faces end n f made ws ≡ Ok ts → (made + length ts ≤ most_input) × AllByRecursion (IsFaceBelow n) ts
 unfolding faces
-faces_below end n zero made ws ts few is = subst (λ (u : List (List ℕ)). (made + length u ≤ 2 ^ 20) × AllByRecursion (IsFaceBelow n) u) (ok_is {E = Refusal} [] ts is) (omega arith, tt)
+faces_below end n zero made ws ts few is = subst (λ (u : List (List ℕ)). (made + length u ≤ most_input) × AllByRecursion (IsFaceBelow n) u) (ok_is {E = Refusal} [] ts is) (omega arith, tt)
 faces_below end n (suc f) made ws ts few is =
     let first = bind_ok (face end n made ws) (λ first. faces end n f (made + length first.0) first.1 >>= λ others. Ok (first.0 ++ others)) ts is in
     let others = bind_ok (faces end n f (made + length first.0.0) first.0.1) (λ others. Ok (first.0.0 ++ others)) ts first.2 in
     let h = face_below end n made ws first.0 first.1 in
     let k = faces_below end n f (made + length first.0.0) first.0.1 others.0 h.0 others.1 in
-    subst (λ (u : List (List ℕ)). (made + length u ≤ 2 ^ 20) × AllByRecursion (IsFaceBelow n) u) (ok_is {E = Refusal} (first.0.0 ++ others.0) ts others.2) (omega (arith, k.0, length-append first.0.0 others.0), all_joined n first.0.0 others.0 h.1 k.1)
+    subst (λ (u : List (List ℕ)). (made + length u ≤ most_input) × AllByRecursion (IsFaceBelow n) u) (ok_is {E = Refusal} (first.0.0 ++ others.0) ts others.2) (omega (arith, k.0, length-append first.0.0 others.0), all_joined n first.0.0 others.0 h.1 k.1)
 
 -- ---- the soup
 pub reads_within : (digits : Option ℕ) (bytes : List ℕ) (raw : Raw) → reads digits bytes ≡ Ok raw → IsRaw raw
@@ -189,7 +190,7 @@ reads_within digits bytes raw is =
     let points = bind_ok (vertices digits end n.0.0 edges.0.1) (λ points. with_faces points.0 (faces end n.0.0 f.0.0 0 points.1)) raw edges.2 in
     let triangles = bind_ok (faces end n.0.0 f.0.0 0 points.0.1) (λ triangles. Ok (record { vertices = points.0.0; faces = triangles })) raw points.2 in
     let w = next_said first_count end start.0 n.0 n.1 in
-    let few : n.0.0 ≤ 2 ^ 20 = first_count_few w.0 n.0.0 w.1 in
+    let few : n.0.0 ≤ most_input = first_count_few w.0 n.0.0 w.1 in
     let vs = vertices_within digits end n.0.0 edges.0.1 points.0 points.1 in
     let ts = faces_below end n.0.0 f.0.0 0 points.0.1 triangles.0 (omega arith) triangles.1 in
     let made : Raw = record { vertices = points.0.0; faces = triangles.0 } in

@@ -1,12 +1,13 @@
 -- What the words that are written say.
 use Rattle.std.proofs.Common.{◌≡◌, ℕ, suc, ◌+◌, ◌-◌, ◌^◌, ◌<◌, ◌≤◌, ◌&&◌, ◌||◌, not, cond, nat_lt, Bool, true, false, List, [], ◌∷◌, length, drop, take, Ok, None, refl, sym, ap, ap₂, ◌∙◌, arith, ℤ, pos, negsuc}
-use Rattle.std.proofs.lemmas.Bool.{lt-ltb, le-ltb, true≢false, and_parts}
+use Rattle.std.proofs.lemmas.Bool.{lt-ltb, le-ltb, and_parts}
 use Rattle.std.proofs.Math.Seq.{take-length}
 use Rattle.std.specs.Prelude.{decimal as written, codes}
 use Rattle.std.specs.Fmt.{signed_decimal}
 use Rattle.std.specs.List.{list_all, prefix_len}
 use Rattle.std.specs.Char.{is_ascii_digit}
 use Rattle.std.specs.Str.{bytes_eq}
+use Rattle.grid.specs.Limits.{most_input}
 use Rattle.int_algebra.specs.Within.{IsWithin}
 use Rattle.off_text.specs.declared.issue.OffKind.TheVariants.{OtherKeyword, BadCount, TooMany, BadNumber, BadIndex, ShortFace}
 use Rattle.off_text.specs.Words.{Word}
@@ -34,17 +35,17 @@ not_empty (d ∷ ds) h = refl
 pub is_number_written : (n : ℕ) → n < 2 ^ 64 → is_number (written n) ≡ true
 is_number_written n fits = ap (λ t. not t && list_all is_ascii_digit (written n)) (not_empty (written n) (written_some n fits)) ∙ written_digits n fits
 
-pub count_said : (w : Word) (n : ℕ) → w.bytes ≡ written n → n ≤ 2 ^ 20 → count w ≡ Ok n
+pub count_said : (w : Word) (n : ℕ) → w.bytes ≡ written n → n ≤ most_input → count w ≡ Ok n
 count_said w n is few =
-    ap (λ t. cond (not t) (refused BadCount w.place) (cond (nat_lt (2 ^ 20) (decimal w.bytes)) (refused TooMany w.place) (Ok (decimal w.bytes)))) (ap is_number is ∙ is_number_written n (omega (arith, few)))
-    ∙ ap (λ (m : ℕ). cond (nat_lt (2 ^ 20) m) (refused TooMany w.place) (Ok m)) (ap decimal is ∙ written_value n (omega (arith, few)))
-    ∙ ap (λ t. cond t (refused TooMany w.place) (Ok n)) (le-ltb (2 ^ 20) n few)
+    ap (λ t. cond (not t) (refused BadCount w.place) (cond (nat_lt most_input (decimal w.bytes)) (refused TooMany w.place) (Ok (decimal w.bytes)))) (ap is_number is ∙ is_number_written n (omega (arith, few)))
+    ∙ ap (λ (m : ℕ). cond (nat_lt most_input m) (refused TooMany w.place) (Ok m)) (ap decimal is ∙ written_value n (omega (arith, few)))
+    ∙ ap (λ t. cond t (refused TooMany w.place) (Ok n)) (le-ltb most_input n few)
 
 not_binary : (ds : List ℕ) → list_all is_ascii_digit ds ≡ true → bytes_eq ds (codes "BINARY") ≡ false
 not_binary [] h = refl
 not_binary (d ∷ ds) h = ap (λ t. t && bytes_eq ds (codes "INARY")) (digit_not_above d 66 (first_digit d ds h) (omega arith))
 
-pub first_count_said : (w : Word) (n : ℕ) → w.bytes ≡ written n → n ≤ 2 ^ 20 → first_count w ≡ Ok n
+pub first_count_said : (w : Word) (n : ℕ) → w.bytes ≡ written n → n ≤ most_input → first_count w ≡ Ok n
 first_count_said w n is few =
     ap (λ t. cond t (refused OtherKeyword w.place) (count w)) (ap (λ bs. bytes_eq bs (codes "BINARY")) is ∙ not_binary (written n) (written_digits n (omega (arith, few))))
     ∙ count_said w n is few
@@ -52,13 +53,13 @@ first_count_said w n is few =
 pub no_edges_said : (w : Word) → w.bytes ≡ codes "0" → edge_count w ≡ Ok tt
 no_edges_said w is = ap (λ bs. cond (not (is_number bs)) (refused BadCount w.place) (Ok tt)) is
 
-pub three_said : (made : ℕ) (w : Word) → w.bytes ≡ codes "3" → made + 1 ≤ 2 ^ 20 → corner_count made w ≡ Ok 3
+pub three_said : (made : ℕ) (w : Word) → w.bytes ≡ codes "3" → made + 1 ≤ most_input → corner_count made w ≡ Ok 3
 unfolding decimal
 three_said made w is few =
-    ap (λ bs. cond (not (is_number bs)) (refused BadCount w.place) (cond (nat_lt (decimal bs) 3) (refused ShortFace w.place) (cond (nat_lt (2 ^ 20) (made + (decimal bs - 2))) (refused TooMany w.place) (Ok (decimal bs))))) is
-    ∙ ap (λ t. cond t (refused TooMany w.place) (Ok 3)) (le-ltb (2 ^ 20) (made + 1) few)
+    ap (λ bs. cond (not (is_number bs)) (refused BadCount w.place) (cond (nat_lt (decimal bs) 3) (refused ShortFace w.place) (cond (nat_lt most_input (made + (decimal bs - 2))) (refused TooMany w.place) (Ok (decimal bs))))) is
+    ∙ ap (λ t. cond t (refused TooMany w.place) (Ok 3)) (le-ltb most_input (made + 1) few)
 
-pub index_said : (n : ℕ) (w : Word) (c : ℕ) → w.bytes ≡ written c → c < n → n ≤ 2 ^ 20 → index n w ≡ Ok c
+pub index_said : (n : ℕ) (w : Word) (c : ℕ) → w.bytes ≡ written c → c < n → n ≤ most_input → index n w ≡ Ok c
 index_said n w c is below few =
     ap (λ t. cond (not t) (refused BadNumber w.place) (cond (nat_lt (decimal w.bytes) n) (Ok (decimal w.bytes)) (refused BadIndex w.place))) (ap is_number is ∙ is_number_written c (omega (arith, below, few)))
     ∙ ap (λ (m : ℕ). cond (nat_lt m n) (Ok m) (refused BadIndex w.place)) (ap decimal is ∙ written_value c (omega (arith, below, few)))

@@ -1,7 +1,8 @@
 -- What an OFF text says: the soup, or the first refusal with its place.
-use Rattle.std.specs.Prelude.{ℕ, zero, suc, ◌+◌, ◌-◌, ◌^◌, not, nat_lt, nat_eq, List, [], ◌∷◌, ◌++◌, length, drop, codes, Option, if◌then◌else◌, Result, Ok, Err, ℤ}
+use Rattle.std.specs.Prelude.{ℕ, zero, suc, ◌+◌, ◌-◌, not, nat_lt, nat_eq, List, [], ◌∷◌, ◌++◌, length, drop, codes, Option, if◌then◌else◌, Result, Ok, Err, ℤ}
 use Rattle.std.specs.List.{filter, ends_with}
 use Rattle.std.specs.Str.{bytes_eq}
+use Rattle.grid.specs.Limits.{most_input}
 use Rattle.soup.specs.declared.raw.Raw.{Raw}
 use Rattle.off_text.specs.declared.issue.OffKind.{OffKind}
 use Rattle.off_text.specs.declared.issue.OffKind.TheVariants.{NoKeyword, OtherKeyword, BadCount, Ended, BadNumber, BadIndex, ShortFace, TooMany}
@@ -46,7 +47,7 @@ keyword end (w ∷ ws) =
 abbrev pub count : Word → Result ℕ Refusal
 count w =
     if not (is_number w.bytes) then refused BadCount w.place
-    else if nat_lt (2 ^ 20) (decimal w.bytes) then refused TooMany w.place
+    else if nat_lt most_input (decimal w.bytes) then refused TooMany w.place
     else Ok (decimal w.bytes)
 
 -- the number of vertices, where BINARY would name another variant
@@ -89,7 +90,7 @@ abbrev pub corner_count : (made : ℕ) → Word → Result ℕ Refusal
 corner_count made w =
     if not (is_number w.bytes) then refused BadCount w.place
     else if nat_lt (decimal w.bytes) 3 then refused ShortFace w.place
-    else if nat_lt (2 ^ 20) (made + (decimal w.bytes - 2)) then refused TooMany w.place
+    else if nat_lt most_input (made + (decimal w.bytes - 2)) then refused TooMany w.place
     else Ok (decimal w.bytes)
 
 -- the number of a vertex, of which there are n

@@ -1,6 +1,7 @@
 //! The vertices and the faces of a text.
 
-ghost use Rattle.std.specs.Prelude.{◌≡◌, ◌+◌, ◌-◌, ◌≤◌, ◌^◌, length, drop, Ok, IfOk, IfErr, IfSome, OnOk};
+ghost use Rattle.grid.specs.Limits.{most_input};
+ghost use Rattle.std.specs.Prelude.{◌≡◌, ◌+◌, ◌-◌, ◌≤◌, length, drop, Ok, IfOk, IfErr, IfSome, OnOk};
 ghost use Rattle.off_text.specs.Scans.{rest_at, beyond_at};
 ghost use Rattle.off_text.specs.Grammar.{vertex, vertices, several, index, beyond_line, face, faces};
 ghost use Rattle.off_text.specs.Gives.{Gives, Fails, with_front, with_fan};
@@ -74,7 +75,7 @@ fn read_fan(
     triangles: &mut Vec<[u32; 3]>,
 ) -> Result<usize, OffIssue>
     requires from { from ≤ length bytes.now }
-    requires few { vertices ≤ 2 ^ 20 }
+    requires few { vertices ≤ most_input }
     requires more { 1 ≤ more }
     ensures ok { OnOk result (with_fan triangles.old.items first second (several (index vertices) (length bytes.now) more (rest_at bytes.now from)) ≡ Ok triangles.new.items) }
     ensures err { IfErr result (λ e. Fails e (several (index vertices) (length bytes.now) more (rest_at bytes.now from))) }
@@ -101,12 +102,12 @@ fn read_face(
     triangles: &mut Vec<[u32; 3]>,
 ) -> Result<usize, OffIssue>
     requires from { from ≤ length bytes.now }
-    requires few { vertices ≤ 2 ^ 20 }
-    requires made { length triangles.old.items ≤ 2 ^ 20 }
+    requires few { vertices ≤ most_input }
+    requires made { length triangles.old.items ≤ most_input }
     ensures ok { IfOk result (λ end. with_front triangles.old.items (face (length bytes.now) vertices (length triangles.old.items) (rest_at bytes.now from)) ≡ Ok (triangles.new.items, rest_at bytes.now end)) }
     ensures err { IfErr result (λ e. Fails e (face (length bytes.now) vertices (length triangles.old.items) (rest_at bytes.now from))) }
     ensures high { IfOk result (λ end. end ≤ length bytes.now) }
-    ensures made { OnOk result (length triangles.new.items ≤ 2 ^ 20) }
+    ensures made { OnOk result (length triangles.new.items ≤ most_input) }
 {
     let corners = read_corner_count(bytes, from, triangles.len())?;
     let first = read_index(bytes, corners.end, vertices)?;
@@ -133,7 +134,7 @@ pub fn read_faces(
     count: u32,
 ) -> Result<Vec<[u32; 3]>, OffIssue>
     requires from { from ≤ length bytes.now }
-    requires few { vertices ≤ 2 ^ 20 }
+    requires few { vertices ≤ most_input }
     ensures { Gives (λ triangles. triangles.items) result (faces (length bytes.now) vertices count 0 (rest_at bytes.now from)) }
 {
     let mut triangles = Vec::new(alloc);

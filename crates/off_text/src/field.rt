@@ -1,5 +1,6 @@
 //! The words of a text that are looked at, each from a place on.
 
+ghost use Rattle.grid.specs.Limits.{most_input};
 ghost use Rattle.std.specs.Prelude.{◌≡◌, ◌+◌, ◌-◌, ◌≤◌, ◌^◌, [], length, IfOk, IfSome, MatchResult};
 ghost use Rattle.off_text.specs.declared.issue.OffKind.TheVariants.{Ended};
 ghost use Rattle.off_text.specs.Scans.{rest_at, word_at, beyond_at, IsNext};
@@ -10,9 +11,7 @@ use crate::coordinate::coordinate;
 use crate::issue::{OffIssue, OffKind};
 use crate::number::number;
 use crate::scan::{Span, next_word};
-
-/// The most vertices, faces and triangles.
-const MOST: u32 = 1 << 20;
+use grid::MOST_INPUT;
 
 /// A number that was read, and the place after its word.
 #[derive(Clone, Copy)]
@@ -72,12 +71,12 @@ fn count_of(bytes: &[u8], word: Span) -> Result<Number, OffIssue>
     requires end { word.end ≤ length bytes.now }
     ensures gives { Gives (λ x. x.value) result (count (word_at bytes.now word)) }
     ensures end { IfOk result (λ x. x.end ≡ word.end) }
-    ensures few { IfOk result (λ x. x.value ≤ 2 ^ 20) }
+    ensures few { IfOk result (λ x. x.value ≤ most_input) }
 {
     let Some(value) = number(&bytes[word.start..word.end]) else {
         return Err(refused(OffKind::BadCount, word.start));
     };
-    if value > MOST {
+    if value > MOST_INPUT {
         return Err(refused(OffKind::TooMany, word.start));
     }
     Ok(Number {
@@ -91,7 +90,7 @@ pub fn read_first_count(bytes: &[u8], from: usize) -> Result<Number, OffIssue>
     requires { from ≤ length bytes.now }
     ensures gives { Gives (λ x. (x.value, rest_at bytes.now x.end)) result (next first_count (length bytes.now) (rest_at bytes.now from)) }
     ensures high { IfOk result (λ x. x.end ≤ length bytes.now) }
-    ensures few { IfOk result (λ x. x.value ≤ 2 ^ 20) }
+    ensures few { IfOk result (λ x. x.value ≤ most_input) }
 {
     let word = next(bytes, from)?;
     let text = &bytes[word.start..word.end];
@@ -106,7 +105,7 @@ pub fn read_count(bytes: &[u8], from: usize) -> Result<Number, OffIssue>
     requires { from ≤ length bytes.now }
     ensures gives { Gives (λ x. (x.value, rest_at bytes.now x.end)) result (next count (length bytes.now) (rest_at bytes.now from)) }
     ensures high { IfOk result (λ x. x.end ≤ length bytes.now) }
-    ensures few { IfOk result (λ x. x.value ≤ 2 ^ 20) }
+    ensures few { IfOk result (λ x. x.value ≤ most_input) }
 {
     let word = next(bytes, from)?;
     count_of(bytes, word)
@@ -129,11 +128,11 @@ pub fn read_edge_count(bytes: &[u8], from: usize) -> Result<usize, OffIssue>
 /// Reads the number of corners of a face, before which so many triangles were made.
 pub fn read_corner_count(bytes: &[u8], from: usize, made: usize) -> Result<Number, OffIssue>
     requires from { from ≤ length bytes.now }
-    requires made { made ≤ 2 ^ 20 }
+    requires made { made ≤ most_input }
     ensures gives { Gives (λ x. (x.value, rest_at bytes.now x.end)) result (next (corner_count made) (length bytes.now) (rest_at bytes.now from)) }
     ensures high { IfOk result (λ x. x.end ≤ length bytes.now) }
     ensures least { IfOk result (λ x. 3 ≤ x.value) }
-    ensures room { IfOk result (λ x. made + (x.value - 2) ≤ 2 ^ 20) }
+    ensures room { IfOk result (λ x. made + (x.value - 2) ≤ most_input) }
 {
     let word = next(bytes, from)?;
     let Some(value) = number(&bytes[word.start..word.end]) else {
@@ -142,7 +141,7 @@ pub fn read_corner_count(bytes: &[u8], from: usize, made: usize) -> Result<Numbe
     if value < 3 {
         return Err(refused(OffKind::ShortFace, word.start));
     }
-    if made + (value as usize - 2) > MOST as usize {
+    if made + (value as usize - 2) > MOST_INPUT as usize {
         return Err(refused(OffKind::TooMany, word.start));
     }
     Ok(Number {
@@ -154,7 +153,7 @@ pub fn read_corner_count(bytes: &[u8], from: usize, made: usize) -> Result<Numbe
 /// Reads the number of a vertex, of which there are so many.
 pub fn read_index(bytes: &[u8], from: usize, vertices: u32) -> Result<Number, OffIssue>
     requires from { from ≤ length bytes.now }
-    requires few { vertices ≤ 2 ^ 20 }
+    requires few { vertices ≤ most_input }
     ensures gives { Gives (λ x. (x.value, rest_at bytes.now x.end)) result (next (index vertices) (length bytes.now) (rest_at bytes.now from)) }
     ensures beyond { IfOk result (λ x. beyond_line (rest_at bytes.now from) ≡ beyond_at bytes.now x.end) }
     ensures high { IfOk result (λ x. x.end ≤ length bytes.now) }

@@ -7,6 +7,7 @@ use Rattle.std.proofs.lemmas.List.{length-map, map-append}
 use Rattle.grid.specs.declared.shapes.Tet.{Tet}
 use Rattle.grid.specs.Meshes.{Mesh, IsTriple, IsWellFormed, IsWithinLimits}
 use Rattle.grid.specs.Simplices.{IsTet}
+use Rattle.grid.specs.Limits.{most_made}
 use Rattle.mesh_types.specs.Views.{mesh_of}
 use Rattle.mesh_types.specs.declared.lists.Lists.{Lists}
 use Rattle.mesher.specs.declared.meshed.Meshed.{Meshed}
@@ -117,7 +118,7 @@ tracked-in_range m w = All-from_recursion (λ x. All (λ c. c < length m.points)
 pub few-tets : (m : Lists) → IsWellFormed (mesh_of m) → IsWithinLimits (mesh_of m) → length m.tets ≤ 16777216
 few-tets m w l =
     let made : length (map (λ (t : Tet). t.0) m.tets) ≤ m.made = w.made_is in
-    let limit : m.made ≤ 4194304 = l.made_few in
+    let limit : m.made ≤ most_made = l.made_few in
     let same : length (map (λ (t : Tet). t.0) m.tets) ≡ length m.tets = length-map m.tets (λ (t : Tet). t.0) in
     omega (arith, made, limit, same)
 

@@ -1,6 +1,6 @@
 -- What is made of an accepted input.
 use Rattle.std.specs.Prelude.{◌≡◌, ℕ, ◌≤◌, Bool, List, [], ◌∷◌, ◌++◌, Option, Some, None, unwrap_or, IfSome}
-use Rattle.grid.specs.Limits.{IsCells}
+use Rattle.grid.specs.Limits.{IsCells, most_epsilon}
 use Rattle.grid.specs.Regions.{AreRegions}
 use Rattle.mesh_types.specs.Views.{mesh_of}
 use Rattle.mesher.specs.declared.meshed.Meshed.{Meshed}
@@ -20,7 +20,7 @@ use Rattle.outputs.specs.Summary.{summary_line}
 -- the numbers are within their limits
 pub record IsAsked (asked : Asked) : Type 0 where
   pub epsilon_least : 1 ≤ asked.epsilon
-  pub epsilon_most : asked.epsilon ≤ 4095
+  pub epsilon_most : asked.epsilon ≤ most_epsilon
   pub cells : IsCells asked.cells
   pub budget : asked.budget ≤ 1000000
   pub digits : IfSome asked.digits (λ d. d ≤ 5)

@@ -1,7 +1,7 @@
 // The texts of an accepted input.
 ghost use Rattle.std.specs.Prelude.{◌≡◌, ◌≤◌, ◌≤ℤ◌, ◌*◌, ◌^◌, pos, length, unsigned_abs, ◌++◌, All, IfOk, OnOk};
 ghost use Rattle.grid.specs.Boxes.{IsTriInBox};
-ghost use Rattle.grid.specs.Limits.{IsSide};
+ghost use Rattle.grid.specs.Limits.{IsSide, largest_side, most_input};
 ghost use Rattle.mesher.specs.Meshed.{IsMeshed};
 ghost use Rattle.outputs.specs.Made.{IsAsked, IsMade, files_of, kept_files};
 
@@ -131,8 +131,8 @@ pub fn make(
     requires side { IsSide soup.now.side }
     requires room { pos (4 * asked.cells) ≤ℤ soup.now.side }
     requires shift { All (λ s. unsigned_abs s ≤ 2 * 10 ^ 9) soup.now.shift }
-    requires few { length soup.now.triangles ≤ 2 ^ 20 }
-    requires inside { All (IsTriInBox (2 ^ 18)) soup.now.triangles }
+    requires few { length soup.now.triangles ≤ most_input }
+    requires inside { All (IsTriInBox largest_side) soup.now.triangles }
     ensures { IfOk result (IsMade asked names first.items soup.now) }
 {
     let made = mesh_soup(alloc, soup, asked.epsilon, asked.cells, asked.budget)?;

@@ -12,6 +12,7 @@ use Rattle.grid.specs.Boxes.{IsInBox, IsUpTo}
 use Rattle.grid.specs.Meshes.{Mesh, IsWellFormed, IsWithinLimits, is_below}
 use Rattle.grid.specs.Simplices.{IsTet}
 use Rattle.grid.specs.Views.{corners_of}
+use Rattle.grid.specs.Limits.{largest_side}
 use Rattle.mesh_types.specs.declared.cut.Cut.{Cut}
 use Rattle.mesh_types.specs.declared.lists.Lists.{Lists}
 use Rattle.mesh_types.specs.Phases.{edges, phase, points_of, wanted, wanted_in, wanted_cuts}
@@ -94,11 +95,11 @@ phase-in m t i n w h =
     (each-points n (wanted_cuts m t i) (recursion_from_All (λ (e : Cut). IsInBox n e.at) (wanted_cuts m t i) (wanted_cuts-in m t i n w.tets_are h))))
 
 -- a box on the grid
-up-to : (side : ℤ) (z : ℤ) → pos 0 ≤ℤ side → side ≤ℤ pos (2 ^ 18) → IsUpTo (nat_abs side) z → IsUpTo (2 ^ 18) z
+up-to : (side : ℤ) (z : ℤ) → pos 0 ≤ℤ side → side ≤ℤ pos largest_side → IsUpTo (nat_abs side) z → IsUpTo largest_side z
 up-to (pos n) z low high h = record { low = h.low; high = omega (arith, ints, h.high, high) }
 up-to (negsuc n) z low high h = absurd (omega (arith, ints, low))
 
-pub on-grid : (side : ℤ) (points : List Point) → pos 0 ≤ℤ side → side ≤ℤ pos (2 ^ 18) → All (IsInBox (nat_abs side)) points → All (IsInBox (2 ^ 18)) points
+pub on-grid : (side : ℤ) (points : List Point) → pos 0 ≤ℤ side → side ≤ℤ pos largest_side → All (IsInBox (nat_abs side)) points → All (IsInBox largest_side) points
 on-grid side points low high h k d lt =
     let p = h k d lt in
     record { x_in = up-to side (get_or points k d).x low high p.x_in; y_in = up-to side (get_or points k d).y low high p.y_in; z_in = up-to side (get_or points k d).z low high p.z_in }

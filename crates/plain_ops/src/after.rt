@@ -1,6 +1,7 @@
 // The tests of what a try makes.
 ghost use Rattle.grid.specs.Boxes.{IsInBox, IsTriInBox};
 ghost use Rattle.grid.specs.Determinants.{IsPositive, det_at};
+ghost use Rattle.grid.specs.Limits.{largest_side, most_epsilon};
 ghost use Rattle.grid.specs.Simplices.{all_faces, count, faces, is_rotation};
 ghost use Rattle.grid.specs.Views.{corners_of, triples_of};
 ghost use Rattle.mesh_types.specs.Certificates.{HasCertificate};
@@ -9,7 +10,7 @@ ghost use Rattle.mesh_types.specs.Views.{mesh_of};
 ghost use Rattle.plain_ops.specs.Afters.{IsFine, has_single_faces};
 ghost use Rattle.plain_ops.specs.PlainResults.{result_in};
 ghost use Rattle.std.specs.List.{list_all};
-ghost use Rattle.std.specs.Prelude.{All, IsTrue, cond, count_by, length, map, nat_lt, ◌^◌, ◌≡◌, ◌≤◌, ◌↔◌};
+ghost use Rattle.std.specs.Prelude.{All, IsTrue, cond, count_by, length, map, nat_lt, ◌≡◌, ◌≤◌, ◌↔◌};
 
 use crate::defects::is_among;
 use crate::points::point_or_origin;
@@ -22,7 +23,7 @@ use mesh_types::Lists;
 
 // ---- Inverted
 fn det_of(points: &[Point], tet: Tet) -> i128
-    requires in_box { All (IsInBox (2 ^ 18)) points.now }
+    requires in_box { All (IsInBox largest_side) points.now }
     ensures { result ≡ det_at points.now tet.0 }
 {
     let Tet([a, b, c, d]) = tet;
@@ -35,7 +36,7 @@ fn det_of(points: &[Point], tet: Tet) -> i128
 }
 
 fn is_positive(points: &[Point], tet: Tet) -> bool
-    requires in_box { All (IsInBox (2 ^ 18)) points.now }
+    requires in_box { All (IsInBox largest_side) points.now }
     ensures { IsTrue result ↔ IsPositive points.now tet.0 }
 {
     det_of(points, tet) > 0
@@ -43,7 +44,7 @@ fn is_positive(points: &[Point], tet: Tet) -> bool
 
 // Whether each of the tetrahedra is positive.
 fn are_positive(points: &[Point], tets: &[Tet]) -> bool
-    requires in_box { All (IsInBox (2 ^ 18)) points.now }
+    requires in_box { All (IsInBox largest_side) points.now }
     ensures { IsTrue result ↔ All (IsPositive points.now) (corners_of tets.now) }
 {
     for tet in tets {
@@ -56,7 +57,7 @@ fn are_positive(points: &[Point], tets: &[Tet]) -> bool
 
 /// Whether each new tetrahedron is positive.
 pub(crate) fn is_upright(made: &PlainResult) -> bool
-    requires in_box { All (IsInBox (2 ^ 18)) made.now.mesh.points }
+    requires in_box { All (IsInBox largest_side) made.now.mesh.points }
     ensures { IsTrue result ↔ All (IsPositive (result_in made.now).mesh.points) (result_in made.now).fresh }
 {
     are_positive(made.mesh.points.as_slice(), &made.fresh)
@@ -122,7 +123,7 @@ pub(crate) fn is_single(made: &PlainResult) -> bool
 
 // ---- Worse
 fn energy_at(points: &[Point], tet: Tet) -> u128
-    requires in_box { All (IsInBox (2 ^ 18)) points.now }
+    requires in_box { All (IsInBox largest_side) points.now }
     requires positive { IsPositive points.now tet.0 }
     ensures { result ≡ energy_at points.now tet.0 }
 {
@@ -137,7 +138,7 @@ fn energy_at(points: &[Point], tet: Tet) -> u128
 
 // The largest energy of the tetrahedra, and 0 where there is none.
 fn largest_energy(points: &[Point], tets: &[Tet]) -> u128
-    requires in_box { All (IsInBox (2 ^ 18)) points.now }
+    requires in_box { All (IsInBox largest_side) points.now }
     requires positive { All (IsPositive points.now) (corners_of tets.now) }
     ensures { result ≡ largest (map (energy_at points.now) (corners_of tets.now)) }
 {
@@ -150,7 +151,7 @@ fn largest_energy(points: &[Point], tets: &[Tet]) -> u128
 
 /// Whether the largest energy of the new tetrahedra is below that of those that are gone.
 pub(crate) fn is_better(made: &PlainResult) -> bool
-    requires in_box { All (IsInBox (2 ^ 18)) made.now.mesh.points }
+    requires in_box { All (IsInBox largest_side) made.now.mesh.points }
     requires fresh_positive { All (IsPositive (result_in made.now).mesh.points) (result_in made.now).fresh }
     requires gone_positive { All (IsPositive (result_in made.now).mesh.points) (result_in made.now).gone }
     ensures { IsTrue result ↔ IsBetter (result_in made.now) }
@@ -164,9 +165,9 @@ pub(crate) fn is_better(made: &PlainResult) -> bool
 // ---- Uncovered
 // The triangle of a face.
 fn triangle(points: &[Point], face: Face) -> Tri
-    requires in_box { All (IsInBox (2 ^ 18)) points.now }
+    requires in_box { All (IsInBox largest_side) points.now }
     ensures value { result ≡ face_at points.now face.0 }
-    ensures within { IsTriInBox (2 ^ 18) result }
+    ensures within { IsTriInBox largest_side result }
 {
     let Face([a, b, c]) = face;
     let p = point_or_origin(points, a);
@@ -176,8 +177,8 @@ fn triangle(points: &[Point], face: Face) -> Tri
 }
 
 fn is_covered(points: &[Point], env: &Envelope, e: u32, face: Face) -> bool
-    requires in_box { All (IsInBox (2 ^ 18)) points.now }
-    requires e_in { e ≤ 4095 }
+    requires in_box { All (IsInBox largest_side) points.now }
+    requires e_in { e ≤ most_epsilon }
     ensures { IsTrue result ↔ HasCertificate env.now e (face_at points.now face.0) }
 {
     covered(env, &triangle(points, face), e)
@@ -185,8 +186,8 @@ fn is_covered(points: &[Point], env: &Envelope, e: u32, face: Face) -> bool
 
 // Whether the face was tracked before or has a certificate.
 fn is_fine(points: &[Point], before: &[Face], env: &Envelope, e: u32, face: Face) -> bool
-    requires in_box { All (IsInBox (2 ^ 18)) points.now }
-    requires e_in { e ≤ 4095 }
+    requires in_box { All (IsInBox largest_side) points.now }
+    requires e_in { e ≤ most_epsilon }
     ensures { IsTrue result ↔ IsFine env.now e (triples_of before.now) points.now face.0 }
 {
     is_among(face, before) || is_covered(points, env, e, face)
@@ -194,8 +195,8 @@ fn is_fine(points: &[Point], before: &[Face], env: &Envelope, e: u32, face: Face
 
 // Whether each of the faces was tracked before or has a certificate.
 fn are_covered(points: &[Point], faces: &[Face], before: &[Face], env: &Envelope, e: u32) -> bool
-    requires in_box { All (IsInBox (2 ^ 18)) points.now }
-    requires e_in { e ≤ 4095 }
+    requires in_box { All (IsInBox largest_side) points.now }
+    requires e_in { e ≤ most_epsilon }
     ensures { IsTrue result ↔ All (IsFine env.now e (triples_of before.now) points.now) (triples_of faces.now) }
 {
     for face in faces {
@@ -208,8 +209,8 @@ fn are_covered(points: &[Point], faces: &[Face], before: &[Face], env: &Envelope
 
 /// Whether each tracked face was tracked before or has a certificate.
 pub(crate) fn is_inside(mesh: &Lists, made: &PlainResult, env: &Envelope, e: u32) -> bool
-    requires in_box { All (IsInBox (2 ^ 18)) made.now.mesh.points }
-    requires e_in { e ≤ 4095 }
+    requires in_box { All (IsInBox largest_side) made.now.mesh.points }
+    requires e_in { e ≤ most_epsilon }
     ensures { IsTrue result ↔ All (IsFine env.now e (mesh_of mesh.now).tracked (result_in made.now).mesh.points) (result_in made.now).mesh.tracked }
 {
     let points = made.mesh.points.as_slice();

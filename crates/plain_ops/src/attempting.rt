@@ -1,5 +1,6 @@
 // A try, and its verdict.
 ghost use Rattle.grid.specs.Boxes.{IsInBox};
+ghost use Rattle.grid.specs.Limits.{largest_side, most_epsilon};
 ghost use Rattle.grid.specs.Meshes.{IsWellFormed, IsWithinLimits};
 ghost use Rattle.mesh_types.specs.declared.tries.Verdict;
 ghost use Rattle.mesh_types.specs.Journals.{AllPositive, after, line, setting};
@@ -8,7 +9,7 @@ ghost use Rattle.mesh_types.specs.Tries.{is_candidate};
 ghost use Rattle.mesh_types.specs.Verdicts.{IsVerdict};
 ghost use Rattle.mesh_types.specs.Views.{mesh_of};
 ghost use Rattle.plain_ops.specs.PlainResults.{result_in};
-ghost use Rattle.std.specs.Prelude.{All, IfOk, nat_abs, pos, true, ◌^◌, ◌≡◌, ◌≤ℤ◌, ◌≤◌};
+ghost use Rattle.std.specs.Prelude.{All, IfOk, nat_abs, pos, true, ◌≡◌, ◌≤ℤ◌, ◌≤◌};
 
 use crate::after::{is_better, is_inside, is_single, is_upright};
 use crate::before::{passes_box, passes_rim, passes_tracked};
@@ -38,11 +39,11 @@ fn verdict_of(
     requires well_formed { IsWellFormed (mesh_of mesh.now) }
     requires within { IsWithinLimits (mesh_of mesh.now) }
     requires side_low { pos 0 ≤ℤ side }
-    requires side_high { side ≤ℤ pos (2 ^ 18) }
+    requires side_high { side ≤ℤ pos largest_side }
     requires in_box { All (IsInBox (nat_abs side)) mesh.now.points }
     requires positive { AllPositive (mesh_of mesh.now) }
     requires made { result_in made.now ≡ result_of (nat_abs side) (mesh_of mesh.now) attempt }
-    requires e_high { e ≤ 4095 }
+    requires e_high { e ≤ most_epsilon }
     ensures { IsVerdict (setting env.now e side) (mesh_of mesh.now) attempt result }
 {
     if !passes_box(mesh, side, attempt) {
@@ -86,12 +87,12 @@ pub fn attempt_plain(
     requires well_formed { IsWellFormed (mesh_of mesh.now) }
     requires within { IsWithinLimits (mesh_of mesh.now) }
     requires side_low { pos 0 ≤ℤ side }
-    requires side_high { side ≤ℤ pos (2 ^ 18) }
+    requires side_high { side ≤ℤ pos largest_side }
     requires in_box { All (IsInBox (nat_abs side)) mesh.now.points }
     requires candidate { is_candidate (mesh_of mesh.now).tets attempt ≡ true }
     requires positive { AllPositive (mesh_of mesh.now) }
     requires e_low { 1 ≤ e }
-    requires e_high { e ≤ 4095 }
+    requires e_high { e ≤ most_epsilon }
     ensures verdict { IfOk result (λ r. IsVerdict (setting env.now e side) (mesh_of mesh.now) attempt r.verdict) }
     ensures mesh { IfOk result (λ r. mesh_of r.mesh ≡ after (nat_abs side) (mesh_of mesh.now) (line attempt r.verdict)) }
 {

@@ -2,12 +2,13 @@
 ghost use Rattle.cutting_rule.specs.Edges.{IsSplitEdge, numbers_of};
 ghost use Rattle.grid.specs.Boxes.{IsInBox};
 ghost use Rattle.grid.specs.Determinants.{point_at};
+ghost use Rattle.grid.specs.Limits.{largest_side};
 ghost use Rattle.grid.specs.Meshes.{IsWellFormed, IsWithinLimits};
 ghost use Rattle.mesh_types.specs.CuttingRule.{splits};
 ghost use Rattle.mesh_types.specs.Phases.{cut_at, cut_by, phase};
 ghost use Rattle.mesh_types.specs.Views.{mesh_of};
 ghost use Rattle.plain_ops.specs.CutMeshes.{IsCutMesh};
-ghost use Rattle.std.specs.Prelude.{All, IfOk, MatchOption, [], false, length, map, true, ◌<◌, ◌^◌, ◌∷◌, ◌≡◌};
+ghost use Rattle.std.specs.Prelude.{All, IfOk, MatchOption, [], false, length, map, true, ◌<◌, ◌∷◌, ◌≡◌};
 
 use crate::points::point_at;
 use crate::refine_plain;
@@ -22,7 +23,7 @@ use std::alloc::Global;
 fn cut_of(plane: &Plane, points: &[Point], u: u32, v: u32) -> Cut
     requires u_in { u < length points.now }
     requires v_in { v < length points.now }
-    requires in_box { All (IsInBox (2 ^ 18)) points.now }
+    requires in_box { All (IsInBox largest_side) points.now }
     requires apart { splits plane.now (point_at points.now u ∷ point_at points.now v ∷ []) ≡ true }
     ensures { result ≡ cut_at points.now plane.now (u ∷ v ∷ []) }
 {
@@ -36,7 +37,7 @@ fn cuts_of(
     points: &[Point],
     edges: &[Edge],
 ) -> Result<Vec<Cut>, Memory>
-    requires in_box { All (IsInBox (2 ^ 18)) points.now }
+    requires in_box { All (IsInBox largest_side) points.now }
     requires apart { All (λ e. IsSplitEdge points.now plane.now e.0) edges.now }
     ensures { IfOk result (λ v. v.items ≡ map (cut_at points.now plane.now) (numbers_of edges.now)) }
 {
@@ -52,7 +53,7 @@ fn phase(alloc: Global, mesh: &Lists, triangle: &CuttingTriangle, i: u32) -> Res
     requires index { i < 4 }
     requires well_formed { IsWellFormed (mesh_of mesh.now) }
     requires within { IsWithinLimits (mesh_of mesh.now) }
-    requires in_box { All (IsInBox (2 ^ 18)) mesh.now.points }
+    requires in_box { All (IsInBox largest_side) mesh.now.points }
     ensures { IfOk result (λ n. mesh_of n ≡ phase (mesh_of mesh.now) triangle.now i) }
 {
     let points = mesh.points.as_slice();
@@ -92,7 +93,7 @@ pub(crate) fn cut(
 ) -> Result<Option<Lists>, Memory>
     requires well_formed { IsWellFormed (mesh_of mesh.now) }
     requires within { IsWithinLimits (mesh_of mesh.now) }
-    requires in_box { All (IsInBox (2 ^ 18)) mesh.now.points }
+    requires in_box { All (IsInBox largest_side) mesh.now.points }
     ensures { IfOk result (λ found. MatchOption found (¬ IsWithinLimits (cut_by (mesh_of mesh.now) triangle.now)) (IsCutMesh (mesh_of mesh.now) triangle.now)) }
 {
     let mut cut = copy_of(alloc, mesh)?;

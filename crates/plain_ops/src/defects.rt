@@ -2,6 +2,7 @@
 ghost use Rattle.cutting_rule.specs.Edges.{numbers_of};
 ghost use Rattle.grid.specs.Boxes.{IsInBox, IsTriInBox};
 ghost use Rattle.grid.specs.Determinants.{IsPositive, point_at};
+ghost use Rattle.grid.specs.Limits.{largest_side, most_epsilon};
 ghost use Rattle.grid.specs.Meshes.{IsWellFormed};
 ghost use Rattle.grid.specs.Near.{Near};
 ghost use Rattle.grid.specs.Simplices.{IsTet, has_all};
@@ -11,7 +12,7 @@ ghost use Rattle.mesh_types.specs.Insertion.{IsStray, IsUncovered, NamesFirst, f
 ghost use Rattle.mesh_types.specs.Phases.{is_unresolved, wanted};
 ghost use Rattle.mesh_types.specs.Views.{mesh_of};
 ghost use Rattle.std.specs.List.{Contains, list_any};
-ghost use Rattle.std.specs.Prelude.{All, IfOk, IsTrue, MatchOption, OnOk, false, length, true, ◌++◌, ◌<◌, ◌^◌, ◌≡◌, ◌≤◌, ◌↔◌};
+ghost use Rattle.std.specs.Prelude.{All, IfOk, IsTrue, MatchOption, OnOk, false, length, true, ◌++◌, ◌<◌, ◌≡◌, ◌≤◌, ◌↔◌};
 
 use crate::points::{corner_points, face_points, is_positive, point_at};
 use crate::wanted::wanted_edges;
@@ -25,7 +26,7 @@ use tri_distance::near;
 
 /// The corners of the first tetrahedron that is not positive.
 pub(crate) fn first_inverted(points: &[Point], tets: &[Tet]) -> Option<[Point; 4]>
-    requires in_box { All (IsInBox (2 ^ 18)) points.now }
+    requires in_box { All (IsInBox largest_side) points.now }
     requires tets_are { All (λ x. IsTet (length points.now) x.0) tets.now }
     ensures { MatchOption result (All (IsPositive points.now) (corners_of tets.now)) (NamesFirst points.now (λ x. ¬ IsPositive points.now x) (corners_of tets.now)) }
 {
@@ -46,7 +47,7 @@ fn push_wanted_of(
 ) -> Result<(), Memory>
     requires index { i < 4 }
     requires well_formed { IsWellFormed (mesh_of mesh.now) }
-    requires in_box { All (IsInBox (2 ^ 18)) mesh.now.points }
+    requires in_box { All (IsInBox largest_side) mesh.now.points }
     ensures { OnOk result (numbers_of into.new.items ≡ numbers_of into.old.items ++ wanted (mesh_of mesh.now) triangle.now i) }
 {
     let edges = wanted_edges(alloc, mesh, triangle, i)?;
@@ -93,7 +94,7 @@ pub(crate) fn first_unresolved(
     triangle: &CuttingTriangle,
 ) -> Result<Option<[Point; 4]>, Memory>
     requires well_formed { IsWellFormed (mesh_of mesh.now) }
-    requires in_box { All (IsInBox (2 ^ 18)) mesh.now.points }
+    requires in_box { All (IsInBox largest_side) mesh.now.points }
     ensures { IfOk result (λ found. MatchOption found (All (λ x. is_unresolved (mesh_of mesh.now) triangle.now x ≡ false) (mesh_of mesh.now).tets) (NamesFirst mesh.now.points (λ x. is_unresolved (mesh_of mesh.now) triangle.now x ≡ true) (mesh_of mesh.now).tets)) }
 {
     let mut edges = wanted_edges(alloc, mesh, triangle, 0)?;
@@ -108,10 +109,10 @@ pub(crate) fn first_unresolved(
 
 // Whether the point of a corner is far from the triangle.
 fn is_far(points: &[Point], u: u32, tri: &Tri, e: u32) -> bool
-    requires in_box { All (IsInBox (2 ^ 18)) points.now }
+    requires in_box { All (IsInBox largest_side) points.now }
     requires there { u < length points.now }
-    requires tri_in { IsTriInBox (2 ^ 18) tri.now }
-    requires e_in { e ≤ 4095 }
+    requires tri_in { IsTriInBox largest_side tri.now }
+    requires e_in { e ≤ most_epsilon }
     ensures far { result ≡ true → ¬ Near (point_at points.now u) 0 tri.now e }
     ensures near { result ≡ false → Near (point_at points.now u) 0 tri.now e }
 {
@@ -120,10 +121,10 @@ fn is_far(points: &[Point], u: u32, tri: &Tri, e: u32) -> bool
 
 // Whether a corner of the face is far from the triangle.
 fn is_stray(points: &[Point], face: Face, tri: &Tri, e: u32) -> bool
-    requires in_box { All (IsInBox (2 ^ 18)) points.now }
+    requires in_box { All (IsInBox largest_side) points.now }
     requires there { All (λ u. u < length points.now) face.0 }
-    requires tri_in { IsTriInBox (2 ^ 18) tri.now }
-    requires e_in { e ≤ 4095 }
+    requires tri_in { IsTriInBox largest_side tri.now }
+    requires e_in { e ≤ most_epsilon }
     ensures stray { result ≡ true → IsStray points.now tri.now e face.0 }
     ensures near { result ≡ false → All (λ u. Near (point_at points.now u) 0 tri.now e) face.0 }
 {
@@ -137,10 +138,10 @@ fn is_stray(points: &[Point], face: Face, tri: &Tri, e: u32) -> bool
 
 /// The points of the first face with a corner farther than e from the triangle.
 pub(crate) fn first_stray(points: &[Point], faces: &[Face], tri: &Tri, e: u32) -> Option<[Point; 3]>
-    requires in_box { All (IsInBox (2 ^ 18)) points.now }
+    requires in_box { All (IsInBox largest_side) points.now }
     requires there { All (λ f. All (λ u. u < length points.now) f.0) faces.now }
-    requires tri_in { IsTriInBox (2 ^ 18) tri.now }
-    requires e_in { e ≤ 4095 }
+    requires tri_in { IsTriInBox largest_side tri.now }
+    requires e_in { e ≤ most_epsilon }
     ensures { MatchOption result (All (λ f. All (λ u. Near (point_at points.now u) 0 tri.now e) f) (triples_of faces.now)) (NamesFirst points.now (IsStray points.now tri.now e) (triples_of faces.now)) }
 {
     for face in faces {
@@ -158,9 +159,9 @@ pub(crate) fn is_among(face: Face, faces: &[Face]) -> bool
 }
 
 fn is_covered(points: &[Point], env: &Envelope, e: u32, face: Face) -> bool
-    requires in_box { All (IsInBox (2 ^ 18)) points.now }
+    requires in_box { All (IsInBox largest_side) points.now }
     requires there { All (λ u. u < length points.now) face.0 }
-    requires e_in { e ≤ 4095 }
+    requires e_in { e ≤ most_epsilon }
     ensures { IsTrue result ↔ HasCertificate env.now e (face_at points.now face.0) }
 {
     covered(env, &Tri(face_points(points, face)), e)
@@ -168,9 +169,9 @@ fn is_covered(points: &[Point], env: &Envelope, e: u32, face: Face) -> bool
 
 // Whether a face was not tracked before, and has no certificate.
 fn is_uncovered(points: &[Point], before: &[Face], env: &Envelope, e: u32, face: Face) -> bool
-    requires in_box { All (IsInBox (2 ^ 18)) points.now }
+    requires in_box { All (IsInBox largest_side) points.now }
     requires there { All (λ u. u < length points.now) face.0 }
-    requires e_in { e ≤ 4095 }
+    requires e_in { e ≤ most_epsilon }
     ensures yes { result ≡ true → IsUncovered points.now env.now e (triples_of before.now) face.0 }
     ensures no { result ≡ false → ¬ IsUncovered points.now env.now e (triples_of before.now) face.0 }
 {
@@ -191,9 +192,9 @@ pub(crate) fn first_uncovered(
     env: &Envelope,
     e: u32,
 ) -> Option<[Point; 3]>
-    requires in_box { All (IsInBox (2 ^ 18)) points.now }
+    requires in_box { All (IsInBox largest_side) points.now }
     requires there { All (λ f. All (λ u. u < length points.now) f.0) faces.now }
-    requires e_in { e ≤ 4095 }
+    requires e_in { e ≤ most_epsilon }
     ensures { MatchOption result (All (λ f. ¬ IsUncovered points.now env.now e (triples_of before.now) f) (triples_of faces.now)) (NamesFirst points.now (IsUncovered points.now env.now e (triples_of before.now)) (triples_of faces.now)) }
 {
     for face in faces {

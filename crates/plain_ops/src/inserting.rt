@@ -1,6 +1,7 @@
 // The insertion of a triangle.
 ghost use Rattle.grid.specs.Boxes.{IsInBox};
 ghost use Rattle.grid.specs.Envelopes.{triangle_at};
+ghost use Rattle.grid.specs.Limits.{largest_side, most_epsilon, most_points};
 ghost use Rattle.grid.specs.Meshes.{IsWellFormed, IsWithinLimits};
 ghost use Rattle.grid.specs.Views.{triples_of};
 ghost use Rattle.mesh_types.specs.declared.outcome.Outcome;
@@ -8,7 +9,7 @@ ghost use Rattle.mesh_types.specs.Insertion.{IsInsertion};
 ghost use Rattle.mesh_types.specs.Tracking.{with_tracked};
 ghost use Rattle.mesh_types.specs.Views.{mesh_of};
 ghost use Rattle.plain_ops.specs.CutMeshes.{IsCutFrom};
-ghost use Rattle.std.specs.Prelude.{All, IfOk, length, nat_abs, pos, ◌+◌, ◌<◌, ◌^◌, ◌≡◌, ◌≤ℤ◌, ◌≤◌};
+ghost use Rattle.std.specs.Prelude.{All, IfOk, length, nat_abs, pos, ◌+◌, ◌<◌, ◌≡◌, ◌≤ℤ◌, ◌≤◌};
 
 use crate::cutting::{copy_of, cut};
 use crate::judging::first_defect;
@@ -42,7 +43,7 @@ fn rolled_back(alloc: Global, mesh: &Lists, defect: Defect) -> Result<PlainInser
 // How many points the second list has beyond the first.
 fn more_points(before: &[Point], after: &[Point]) -> u32
     requires longer { length before.now ≤ length after.now }
-    requires few { length after.now ≤ 2 ^ 20 }
+    requires few { length after.now ≤ most_points }
     ensures { length before.now + result ≡ length after.now }
 {
     (after.len() - before.len()) as u32
@@ -74,7 +75,7 @@ fn settle(
     e: u32,
 ) -> Result<PlainInsert, Memory>
     requires there { t < length env.now }
-    requires e_in { e ≤ 4095 }
+    requires e_in { e ≤ most_epsilon }
     requires triangle { triangle.now ≡ triangle_at env.now t }
     requires cut { IsCutFrom (mesh_of mesh.now) (triangle_at env.now t) cut }
     ensures { IfOk result (λ r. IsInsertion env.now t e (mesh_of mesh.now) r.outcome (mesh_of r.mesh)) }
@@ -111,11 +112,11 @@ pub fn insert_plain(
     requires well_formed { IsWellFormed (mesh_of mesh.now) }
     requires within { IsWithinLimits (mesh_of mesh.now) }
     requires side_low { pos 0 ≤ℤ side }
-    requires side_high { side ≤ℤ pos (2 ^ 18) }
+    requires side_high { side ≤ℤ pos largest_side }
     requires in_box { All (IsInBox (nat_abs side)) mesh.now.points }
     requires there { t < length env.now }
     requires e_low { 1 ≤ e }
-    requires e_high { e ≤ 4095 }
+    requires e_high { e ≤ most_epsilon }
     ensures { IfOk result (λ r. IsInsertion env.now t e (mesh_of mesh.now) r.outcome (mesh_of r.mesh)) }
 {
     let tri = env.triangle(t);

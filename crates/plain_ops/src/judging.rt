@@ -1,6 +1,7 @@
 // The first defect of a cut mesh.
 ghost use Rattle.grid.specs.Determinants.{IsPositive, point_at};
 ghost use Rattle.grid.specs.Envelopes.{triangle_at};
+ghost use Rattle.grid.specs.Limits.{most_epsilon};
 ghost use Rattle.grid.specs.Near.{Near};
 ghost use Rattle.grid.specs.Views.{triples_of};
 ghost use Rattle.mesh_types.specs.Phases.{is_unresolved, section};
@@ -27,7 +28,7 @@ pub(crate) fn first_defect(
     e: u32,
 ) -> Result<Option<Defect>, Memory>
     requires there { t < length env.now }
-    requires e_in { e ≤ 4095 }
+    requires e_in { e ≤ most_epsilon }
     requires triangle { triangle.now ≡ triangle_at env.now t }
     requires cut { IsCutFrom (mesh_of mesh.now) (triangle_at env.now t) cut.now }
     requires faces { triples_of faces.now ≡ section (mesh_of cut.now) (triangle_at env.now t) }
@@ -50,7 +51,7 @@ fn judge_positive(
     e: u32,
 ) -> Result<Option<Defect>, Memory>
     requires there { t < length env.now }
-    requires e_in { e ≤ 4095 }
+    requires e_in { e ≤ most_epsilon }
     requires triangle { triangle.now ≡ triangle_at env.now t }
     requires cut { IsCutFrom (mesh_of mesh.now) (triangle_at env.now t) cut.now }
     requires faces { triples_of faces.now ≡ section (mesh_of cut.now) (triangle_at env.now t) }
@@ -73,7 +74,7 @@ fn judge_resolved(
     e: u32,
 ) -> Option<Defect>
     requires there { t < length env.now }
-    requires e_in { e ≤ 4095 }
+    requires e_in { e ≤ most_epsilon }
     requires cut { IsCutFrom (mesh_of mesh.now) (triangle_at env.now t) cut.now }
     requires faces { triples_of faces.now ≡ section (mesh_of cut.now) (triangle_at env.now t) }
     requires positive { All (IsPositive cut.now.points) (mesh_of cut.now).tets }
@@ -89,7 +90,7 @@ fn judge_resolved(
 
 fn judge_near(mesh: &Lists, cut: &Lists, env: &Envelope, t: u32, e: u32) -> Option<Defect>
     requires there { t < length env.now }
-    requires e_in { e ≤ 4095 }
+    requires e_in { e ≤ most_epsilon }
     requires cut { IsCutFrom (mesh_of mesh.now) (triangle_at env.now t) cut.now }
     requires positive { All (IsPositive cut.now.points) (mesh_of cut.now).tets }
     requires resolved { All (λ x. is_unresolved (mesh_of cut.now) (triangle_at env.now t) x ≡ false) (mesh_of cut.now).tets }

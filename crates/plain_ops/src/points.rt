@@ -1,9 +1,10 @@
 // Points of simplices.
 ghost use Rattle.grid.specs.Boxes.{IsInBox};
 ghost use Rattle.grid.specs.Determinants.{IsPositive, point_at};
+ghost use Rattle.grid.specs.Limits.{largest_side};
 ghost use Rattle.grid.specs.Simplices.{IsTet};
 ghost use Rattle.mesh_types.specs.Phases.{points_of};
-ghost use Rattle.std.specs.Prelude.{All, IsTrue, length, ◌<◌, ◌^◌, ◌≡◌, ◌↔◌};
+ghost use Rattle.std.specs.Prelude.{All, IsTrue, length, ◌<◌, ◌≡◌, ◌↔◌};
 
 use grid::{Face, Point, Tet, det};
 
@@ -44,7 +45,7 @@ pub(crate) fn face_points(points: &[Point], face: Face) -> [Point; 3]
 
 /// Whether a tetrahedron is positive.
 pub(crate) fn is_positive(points: &[Point], tet: Tet) -> bool
-    requires in_box { All (IsInBox (2 ^ 18)) points.now }
+    requires in_box { All (IsInBox largest_side) points.now }
     requires there { IsTet (length points.now) tet.0 }
     ensures { IsTrue result ↔ IsPositive points.now tet.0 }
 {
@@ -60,7 +61,7 @@ pub(crate) fn is_positive(points: &[Point], tet: Tet) -> bool
 /// The point of a number. One that is no point's stands for the origin, as it does in the definitions.
 pub(crate) fn point_or_origin(points: &[Point], u: u32) -> Point
     ensures value { result ≡ point_at points.now u }
-    ensures within { All (IsInBox (2 ^ 18)) points.now → IsInBox (2 ^ 18) result }
+    ensures within { All (IsInBox largest_side) points.now → IsInBox largest_side result }
 {
     if (u as usize) < points.len() {
         points[u as usize]

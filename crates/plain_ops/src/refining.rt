@@ -1,4 +1,5 @@
 // Refinement by a list of cuts.
+ghost use Rattle.grid.specs.Limits.{most_points};
 ghost use Rattle.grid.specs.Meshes.{IsWithinLimits};
 ghost use Rattle.grid.specs.Simplices.{rising};
 ghost use Rattle.grid.specs.Views.{corners_of, triples_of};
@@ -159,7 +160,7 @@ fn refined_triples(
 }
 
 pub(crate) fn count_of(points: &[Point]) -> u32
-    requires { length points.now ≤ 2 ^ 20 }
+    requires { length points.now ≤ most_points }
     ensures { result ≡ length points.now }
 {
     points.len() as u32

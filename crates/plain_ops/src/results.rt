@@ -1,5 +1,6 @@
 // What a try makes of a mesh.
 ghost use Rattle.grid.specs.Boxes.{IsInBox};
+ghost use Rattle.grid.specs.Limits.{largest_side};
 ghost use Rattle.grid.specs.Meshes.{IsWellFormed, IsWithinLimits};
 ghost use Rattle.grid.specs.Simplices.{has, replaced};
 ghost use Rattle.grid.specs.Views.{corners_of, triples_of};
@@ -9,7 +10,7 @@ ghost use Rattle.mesh_types.specs.Tries.{is_candidate};
 ghost use Rattle.mesh_types.specs.Views.{mesh_of};
 ghost use Rattle.plain_ops.specs.PlainResults.{result_in};
 ghost use Rattle.std.specs.List.{filter};
-ghost use Rattle.std.specs.Prelude.{All, IfOk, [], ◌∷◌, length, map, nat_abs, not, pos, true, ◌&&◌, ◌+◌, ◌<◌, ◌^◌, ◌≡◌, ◌≤ℤ◌, ◌≤◌};
+ghost use Rattle.std.specs.Prelude.{All, IfOk, [], ◌∷◌, length, map, nat_abs, not, pos, true, ◌&&◌, ◌+◌, ◌<◌, ◌≡◌, ◌≤ℤ◌, ◌≤◌};
 
 use crate::cutting::copy_of;
 use crate::points::point_or_origin;
@@ -41,7 +42,7 @@ pub(crate) fn result_of(
     requires well_formed { IsWellFormed (mesh_of mesh.now) }
     requires within { IsWithinLimits (mesh_of mesh.now) }
     requires side_low { pos 0 ≤ℤ side }
-    requires in_box { All (IsInBox (2 ^ 18)) mesh.now.points }
+    requires in_box { All (IsInBox largest_side) mesh.now.points }
     requires candidate { is_candidate (mesh_of mesh.now).tets attempt ≡ true }
     ensures { IfOk result (λ r. result_in r ≡ result_of (nat_abs side) (mesh_of mesh.now) attempt) }
 {
@@ -117,7 +118,7 @@ fn touched(alloc: Global, cuts: &[Cut], tets: &[Tet]) -> Result<Vec<Tet>, Memory
 
 fn split(alloc: Global, mesh: &Lists, u: u32, v: u32) -> Result<PlainResult, Memory>
     requires within { IsWithinLimits (mesh_of mesh.now) }
-    requires in_box { All (IsInBox (2 ^ 18)) mesh.now.points }
+    requires in_box { All (IsInBox largest_side) mesh.now.points }
     ensures { IfOk result (λ r. result_in r ≡ split (mesh_of mesh.now) u v) }
 {
     let points = mesh.points.as_slice();

@@ -1,6 +1,7 @@
 // Where tries put new points.
 ghost use Rattle.grid.specs.Boxes.{IsInBox, IsUpTo};
 ghost use Rattle.grid.specs.Determinants.{point_at};
+ghost use Rattle.grid.specs.Limits.{largest_side, most_points};
 ghost use Rattle.grid.specs.Meshes.{IsWellFormed, IsWithinLimits};
 ghost use Rattle.grid.specs.Views.{corners_of};
 ghost use Rattle.mesh_types.specs.Results.{half_way, mean_at, midpoint_floored, neighbours, shifted_to, sum_at, target};
@@ -19,8 +20,8 @@ use std::alloc::Global;
 
 /// Half of the way from one to the other, rounded down.
 fn half_way(a: i32, b: i32) -> i32
-    requires a_in { IsUpTo (2 ^ 18) a }
-    requires b_in { IsUpTo (2 ^ 18) b }
+    requires a_in { IsUpTo largest_side a }
+    requires b_in { IsUpTo largest_side b }
     ensures { result ≡ half_way a b }
 {
     (a + b).div_euclid(2)
@@ -28,8 +29,8 @@ fn half_way(a: i32, b: i32) -> i32
 
 /// The midpoint, each coordinate rounded down.
 pub(crate) fn midpoint(p: Point, q: Point) -> Point
-    requires p_in { IsInBox (2 ^ 18) p }
-    requires q_in { IsInBox (2 ^ 18) q }
+    requires p_in { IsInBox largest_side p }
+    requires q_in { IsInBox largest_side q }
     ensures { result ≡ midpoint_floored p q }
 {
     let x = half_way(p.x, q.x);
@@ -83,7 +84,7 @@ enum Axis {
 
 fn along(axis: Axis, p: Point) -> i32
     ensures value { result ≡ along axis p }
-    ensures within { IsInBox (2 ^ 18) p → IsUpTo (2 ^ 18) result }
+    ensures within { IsInBox largest_side p → IsUpTo largest_side result }
 {
     match axis {
         Axis::X => p.x,
@@ -94,16 +95,16 @@ fn along(axis: Axis, p: Point) -> i32
 
 // The coordinate of the point w.
 fn coordinate(axis: Axis, points: &[Point], w: u32) -> i32
-    requires { All (IsInBox (2 ^ 18)) points.now }
+    requires { All (IsInBox largest_side) points.now }
     ensures value { result ≡ along axis (point_at points.now w) }
-    ensures within { IsUpTo (2 ^ 18) result }
+    ensures within { IsUpTo largest_side result }
 {
     along(axis, point_or_origin(points, w))
 }
 
 fn plus(sum: i64, z: i32) -> i64
     requires sum_in { IsUpTo (2 ^ 40) sum }
-    requires z_in { IsUpTo (2 ^ 18) z }
+    requires z_in { IsUpTo largest_side z }
     ensures { result ≡ sum +ℤ z }
 {
     sum + z as i64
@@ -111,10 +112,10 @@ fn plus(sum: i64, z: i32) -> i64
 
 // The sum of a coordinate of these points.
 fn sum_along(axis: Axis, points: &[Point], ws: &[u32]) -> i64
-    requires in_box { All (IsInBox (2 ^ 18)) points.now }
-    requires few { length ws.now ≤ 2 ^ 20 }
+    requires in_box { All (IsInBox largest_side) points.now }
+    requires few { length ws.now ≤ most_points }
     ensures value { result ≡ sum_at (λ w. along axis (point_at points.now w)) ws.now }
-    ensures within { IsUpTo (2 ^ 18 * length ws.now) result }
+    ensures within { IsUpTo (largest_side * length ws.now) result }
 {
     let mut sum = 0;
     for w in ws {
@@ -126,10 +127,10 @@ fn sum_along(axis: Axis, points: &[Point], ws: &[u32]) -> i64
 // The mean, rounded to the nearest whole number, a half going up.
 fn mean_of(sum: i64, count: u32) -> i32
     requires some { 0 < count }
-    requires few { count ≤ 2 ^ 20 }
-    requires sum_in { IsUpTo (2 ^ 18 * count) sum }
+    requires few { count ≤ most_points }
+    requires sum_in { IsUpTo (largest_side * count) sum }
     ensures value { result ≡ int_div_euclid (pos 2 *ℤ sum +ℤ pos count) (pos (2 * count)) }
-    ensures within { IsUpTo (2 ^ 18) result }
+    ensures within { IsUpTo largest_side result }
 {
     rounded(sum, count as i64) as i32
 }
@@ -137,7 +138,7 @@ fn mean_of(sum: i64, count: u32) -> i32
 fn rounded(sum: i64, count: i64) -> i64
     requires sum_in { IsUpTo (2 ^ 38) sum }
     requires some { pos 1 ≤ℤ count }
-    requires few { count ≤ℤ pos (2 ^ 20) }
+    requires few { count ≤ℤ pos most_points }
     ensures { result ≡ int_div_euclid (pos 2 *ℤ sum +ℤ count) (pos 2 *ℤ count) }
 {
     (2 * sum + count).div_euclid(2 * count)
@@ -145,19 +146,19 @@ fn rounded(sum: i64, count: i64) -> i64
 
 // The mean of a coordinate of these points.
 fn mean_along(axis: Axis, points: &[Point], ws: &[u32]) -> i32
-    requires in_box { All (IsInBox (2 ^ 18)) points.now }
+    requires in_box { All (IsInBox largest_side) points.now }
     requires some { 0 < length ws.now }
-    requires few { length ws.now ≤ 2 ^ 20 }
+    requires few { length ws.now ≤ most_points }
     ensures value { result ≡ mean_at (λ w. along axis (point_at points.now w)) ws.now }
-    ensures within { IsUpTo (2 ^ 18) result }
+    ensures within { IsUpTo largest_side result }
 {
     mean_of(sum_along(axis, points, ws), ws.len() as u32)
 }
 
 // Where a coordinate goes: at the ends of the box it stays.
 fn shifted(from: i32, mean: i32, side: i32, way: u8) -> i32
-    requires from_in { IsUpTo (2 ^ 18) from }
-    requires mean_in { IsUpTo (2 ^ 18) mean }
+    requires from_in { IsUpTo largest_side from }
+    requires mean_in { IsUpTo largest_side mean }
     requires side_low { pos 0 ≤ℤ side }
     ensures { result ≡ shifted_to (nat_abs side) way from mean }
 {
@@ -171,9 +172,9 @@ fn shifted(from: i32, mean: i32, side: i32, way: u8) -> i32
 }
 
 fn shifted_along(axis: Axis, points: &[Point], ws: &[u32], side: i32, u: u32, way: u8) -> i32
-    requires in_box { All (IsInBox (2 ^ 18)) points.now }
+    requires in_box { All (IsInBox largest_side) points.now }
     requires some { 0 < length ws.now }
-    requires few { length ws.now ≤ 2 ^ 20 }
+    requires few { length ws.now ≤ most_points }
     requires side_low { pos 0 ≤ℤ side }
     ensures { result ≡ shifted_to (nat_abs side) way (along axis (point_at points.now u)) (mean_at (λ w. along axis (point_at points.now w)) ws.now) }
 {
@@ -192,7 +193,7 @@ pub(crate) fn target(
     requires well_formed { IsWellFormed (mesh_of mesh.now) }
     requires within { IsWithinLimits (mesh_of mesh.now) }
     requires side_low { pos 0 ≤ℤ side }
-    requires in_box { All (IsInBox (2 ^ 18)) mesh.now.points }
+    requires in_box { All (IsInBox largest_side) mesh.now.points }
     requires some { 0 < tets_at_point (mesh_of mesh.now).tets u }
     ensures { IfOk result (λ p. p ≡ target (nat_abs side) (mesh_of mesh.now) u way) }
 {

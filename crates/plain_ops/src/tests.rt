@@ -1,3 +1,4 @@
+ghost use Rattle.grid.specs.Limits.{most_points};
 ghost use Rattle.mesh_types.specs.declared.tries.Try;
 ghost use Rattle.mesh_types.specs.declared.tries.Verdict;
 ghost use Rattle.mesh_types.specs.Journals.{after, line};
@@ -40,7 +41,7 @@ const TETS: [Tet; 6] = [
 
 // The cube of side 16 in six tetrahedra, with one tracked face.
 fn cube(alloc: Global) -> Result<Lists, AllocError>
-    ensures points { IfOk result (λ m. length m.points ≤ 2 ^ 20) }
+    ensures points { IfOk result (λ m. length m.points ≤ most_points) }
     ensures made { IfOk result (λ m. m.made ≤ 2 ^ 22) }
 {
     Ok(Lists {

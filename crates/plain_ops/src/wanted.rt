@@ -2,13 +2,14 @@
 ghost use Rattle.cutting_rule.specs.Edges.{numbers_of};
 ghost use Rattle.cutting_rule.specs.Section.{section_in};
 ghost use Rattle.grid.specs.Boxes.{IsInBox};
+ghost use Rattle.grid.specs.Limits.{largest_side};
 ghost use Rattle.grid.specs.Meshes.{IsWellFormed};
 ghost use Rattle.grid.specs.Simplices.{IsTet};
 ghost use Rattle.grid.specs.Views.{corners_of, triples_of};
 ghost use Rattle.mesh_types.specs.Phases.{section, wanted, wanted_in};
 ghost use Rattle.mesh_types.specs.Views.{mesh_of};
 ghost use Rattle.std.specs.List.{flat_map};
-ghost use Rattle.std.specs.Prelude.{All, IfOk, length, ◌<◌, ◌^◌, ◌≡◌};
+ghost use Rattle.std.specs.Prelude.{All, IfOk, length, ◌<◌, ◌≡◌};
 
 use crate::points::corner_points;
 use cutting_rule::{
@@ -26,7 +27,7 @@ fn wanted_of(
     i: u32,
 ) -> Result<Vec<Edge>, Memory>
     requires index { i < 4 }
-    requires in_box { All (IsInBox (2 ^ 18)) points.now }
+    requires in_box { All (IsInBox largest_side) points.now }
     requires tets_are { All (λ x. IsTet (length points.now) x.0) tets.now }
     ensures { IfOk result (λ v. numbers_of v.items ≡ flat_map (wanted_in points.now triangle.now i) (corners_of tets.now)) }
 {
@@ -47,7 +48,7 @@ pub(crate) fn wanted_edges(
 ) -> Result<Vec<Edge>, Memory>
     requires index { i < 4 }
     requires well_formed { IsWellFormed (mesh_of mesh.now) }
-    requires in_box { All (IsInBox (2 ^ 18)) mesh.now.points }
+    requires in_box { All (IsInBox largest_side) mesh.now.points }
     ensures { IfOk result (λ v. numbers_of v.items ≡ wanted (mesh_of mesh.now) triangle.now i) }
 {
     let points = mesh.points.as_slice();
@@ -63,7 +64,7 @@ fn section_of(
     tets: &[Tet],
     triangle: &CuttingTriangle,
 ) -> Result<Vec<Face>, Memory>
-    requires in_box { All (IsInBox (2 ^ 18)) points.now }
+    requires in_box { All (IsInBox largest_side) points.now }
     requires tets_are { All (λ x. IsTet (length points.now) x.0) tets.now }
     ensures { IfOk result (λ v. triples_of v.items ≡ flat_map (section_in points.now triangle.now) (corners_of tets.now)) }
 {
@@ -82,7 +83,7 @@ pub(crate) fn section(
     triangle: &CuttingTriangle,
 ) -> Result<Vec<Face>, Memory>
     requires well_formed { IsWellFormed (mesh_of mesh.now) }
-    requires in_box { All (IsInBox (2 ^ 18)) mesh.now.points }
+    requires in_box { All (IsInBox largest_side) mesh.now.points }
     ensures { IfOk result (λ v. triples_of v.items ≡ section (mesh_of mesh.now) triangle.now) }
 {
     let points = mesh.points.as_slice();

@@ -8,7 +8,7 @@ use Rattle.int_algebra.proofs.Laws.{linear}
 use Rattle.int_algebra.proofs.Ring.{constant, ◌⊖◌, minus, ring}
 use Rattle.int_algebra.proofs.Orders.{less_test}
 use Rattle.int_algebra.proofs.Corners as corners
-use Rattle.int_algebra.proofs.Corners.{Corner, corner, less}
+use Rattle.int_algebra.proofs.Corners.{corner, less}
 use Rattle.grid.specs.declared.shapes.Point.{Point}
 use Rattle.grid.specs.declared.shapes.Tri.{Tri}
 use Rattle.grid.specs.Vectors.{Vector, no_vector, difference, dot, cross, opposite}

@@ -4,15 +4,16 @@ use Rattle.grid.specs.declared.shapes.Point.{Point}
 use Rattle.grid.specs.Boxes.{IsInBox}
 use Rattle.grid.specs.Vectors.{dot}
 use Rattle.grid.specs.Planes.{Plane}
+use Rattle.grid.specs.Limits.{largest_side, most_epsilon}
 use Rattle.vectors.specs.declared.vector.Vector.{Vector}
 use Rattle.vectors.specs.Bounded.{IsVectorWithin, vector_of}
 
 -- the normal, the origin and the snapping distance that a plane of the code may have
 pub record IsBounded (m : Plane) : Type 0 where
   pub normal_in : IsVectorWithin (2 ^ 37) m.normal
-  pub origin_in : IsInBox (2 ^ 18) m.origin
+  pub origin_in : IsInBox largest_side m.origin
   pub snap_low : 1 ≤ m.snap
-  pub snap_high : m.snap ≤ 4095
+  pub snap_high : m.snap ≤ most_epsilon
 
 -- the square of the snapping distance, times that of the normal's length
 abbrev pub sq_reach_of : Plane → ℤ

@@ -1,4 +1,5 @@
 ghost use Rattle.grid.specs.Boxes.{IsInBox, IsUpTo};
+ghost use Rattle.grid.specs.Limits.{largest_side};
 ghost use Rattle.grid.specs.Planes;
 ghost use Rattle.planes.specs.Crossings.{mean_of};
 ghost use Rattle.std.specs.Prelude.{pos, ◌*ℤ◌, ◌+ℤ◌, ◌+◌, ◌<◌, ◌^◌, ◌≡◌, ◌≤◌};
@@ -7,8 +8,8 @@ use grid::Point;
 
 /// The mean of u and v with the weights g and f, each coordinate rounded, a half going up.
 pub fn mean_point(u: Point, v: Point, f: u64, g: u64) -> Point
-    requires u_in { IsInBox (2 ^ 18) u }
-    requires v_in { IsInBox (2 ^ 18) v }
+    requires u_in { IsInBox largest_side u }
+    requires v_in { IsInBox largest_side v }
     requires f_in { f ≤ 2 ^ 57 }
     requires g_in { g ≤ 2 ^ 57 }
     requires some { 0 < f + g }
@@ -22,8 +23,8 @@ pub fn mean_point(u: Point, v: Point, f: u64, g: u64) -> Point
 }
 
 fn rounded_mean(u: i32, v: i32, f: u64, g: u64) -> i32
-    requires u_in { IsUpTo (2 ^ 18) u }
-    requires v_in { IsUpTo (2 ^ 18) v }
+    requires u_in { IsUpTo largest_side u }
+    requires v_in { IsUpTo largest_side v }
     requires f_in { f ≤ 2 ^ 57 }
     requires g_in { g ≤ 2 ^ 57 }
     requires some { 0 < f + g }
@@ -35,8 +36,8 @@ fn rounded_mean(u: i32, v: i32, f: u64, g: u64) -> i32
 }
 
 fn weighted_sum(u: i32, v: i32, f: u64, g: u64) -> i128
-    requires u_in { IsUpTo (2 ^ 18) u }
-    requires v_in { IsUpTo (2 ^ 18) v }
+    requires u_in { IsUpTo largest_side u }
+    requires v_in { IsUpTo largest_side v }
     requires f_in { f ≤ 2 ^ 57 }
     requires g_in { g ≤ 2 ^ 57 }
     ensures { result ≡ (u *ℤ pos g) +ℤ (v *ℤ pos f) }

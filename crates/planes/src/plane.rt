@@ -1,4 +1,5 @@
 ghost use Rattle.grid.specs.Boxes.{IsInBox, IsOn, Side};
+ghost use Rattle.grid.specs.Limits.{largest_side, most_epsilon};
 ghost use Rattle.grid.specs.Planes;
 ghost use Rattle.grid.specs.Planes.{value_of};
 ghost use Rattle.grid.specs.Vectors.{components};
@@ -49,9 +50,9 @@ impl Model for Plane {
 impl Plane {
     pub(crate) fn new(normal: Vector, origin: Point, snap: u32) -> Plane
         requires normal_in { IsVectorWithin (2 ^ 37) (vector_of normal) }
-        requires origin_in { IsInBox (2 ^ 18) origin }
+        requires origin_in { IsInBox largest_side origin }
         requires snap_low { 1 ≤ snap }
-        requires snap_high { snap ≤ 4095 }
+        requires snap_high { snap ≤ most_epsilon }
         ensures { result ≡ record { normal = vector_of normal; origin = origin; snap = snap } }
     {
         let sq_snap = snap * snap;
@@ -75,7 +76,7 @@ impl Plane {
     /// The corner of the triangle from which the values are taken.
     pub fn origin(&self) -> Point
         ensures origin { result ≡ self.now.origin }
-        ensures in_box { IsInBox (2 ^ 18) result }
+        ensures in_box { IsInBox largest_side result }
     {
         self.origin
     }
@@ -83,7 +84,7 @@ impl Plane {
     /// The same plane with another snapping distance, of 1 to 4095 grid steps.
     pub fn with_snap(self, s: u32) -> Plane
         requires low { 1 ≤ s }
-        requires high { s ≤ 4095 }
+        requires high { s ≤ most_epsilon }
         ensures snap { result ≡ record self { snap = s } }
     {
         Plane::new(self.normal, self.origin, s)
@@ -92,7 +93,7 @@ impl Plane {
     // How far the point lies from the plane, times the length of the normal.
     #[tactic(auto, using(vectors::proofs::VectorLemmas::wider))]
     fn value(&self, p: Point) -> i64
-        requires { IsInBox (2 ^ 18) p }
+        requires { IsInBox largest_side p }
         ensures value { result ≡ value_of self.now p }
         ensures bound { IsWithin (2 ^ 57) result }
     {
@@ -102,7 +103,7 @@ impl Plane {
     /// The side of the plane on which a point lies: 1 where the normal points to it, -1 on the other
     /// side, and 0 where it lies within the snapping distance and so counts as on the plane.
     pub fn snap_sign(&self, p: Point) -> i8
-        requires { IsInBox (2 ^ 18) p }
+        requires { IsInBox largest_side p }
         ensures sign { result ≡ Planes.snap_sign self.now p }
     {
         sign_beyond(self.value(p), self.sq_reach)
@@ -112,8 +113,8 @@ impl Plane {
     /// nearest whole number, a half going up. The values of u and v have opposite signs, as those of
     /// points with the snapped signs -1 and 1 have.
     pub fn crossing(&self, u: Point, v: Point) -> Point
-        requires u_in { IsInBox (2 ^ 18) u }
-        requires v_in { IsInBox (2 ^ 18) v }
+        requires u_in { IsInBox largest_side u }
+        requires v_in { IsInBox largest_side v }
         requires opposite { HaveOppositeSigns self.now u v }
         ensures crossing { result ≡ Planes.crossing self.now u v }
         ensures in_box { (n : ℕ) → IsInBox n u → IsInBox n v → IsInBox n result }

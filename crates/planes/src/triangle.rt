@@ -1,4 +1,5 @@
 ghost use Rattle.grid.specs.Boxes.{IsInBox, IsTriInBox, corner_of};
+ghost use Rattle.grid.specs.Limits.{largest_side};
 ghost use Rattle.grid.specs.Planes;
 ghost use Rattle.grid.specs.Planes.{IsDegenerate, largest_axis, unit_of, value_of};
 ghost use Rattle.grid.specs.Vectors;
@@ -26,7 +27,7 @@ use vectors::{Vector, cross, difference, dot, opposite};
 /// The plane of a triangle, with the snapping distance 1. None exactly where the triangle is
 /// degenerate: its corners lie on one line.
 pub fn plane_of(tri: Tri) -> Option<Plane>
-    requires { IsTriInBox (2 ^ 18) tri }
+    requires { IsTriInBox largest_side tri }
     ensures none { IsNone result ↔ IsDegenerate tri }
     ensures some { IfSome result (λ p. p ≡ Planes.plane_of tri) }
 {
@@ -42,7 +43,7 @@ pub fn plane_of(tri: Tri) -> Option<Plane>
 /// counted modulo 3, that is parallel to the axis along which the triangle's normal is longest, to
 /// the first on ties. Where the triangle is not degenerate, the third corner has a positive value.
 pub fn side_plane(tri: Tri, i: usize) -> Plane
-    requires tri_in { IsTriInBox (2 ^ 18) tri }
+    requires tri_in { IsTriInBox largest_side tri }
     requires index { i < 3 }
     ensures side { result ≡ Planes.side_plane tri i }
     ensures third { (IsDegenerate tri → ⊥) → pos 0 <ℤ value_of result (corner_of tri ((i + 2) % 3)) }
@@ -58,7 +59,7 @@ pub fn side_plane(tri: Tri, i: usize) -> Plane
 
 #[tactic(auto, using(vectors::proofs::VectorLemmas::wider))]
 fn normal_of(tri: Tri) -> Vector
-    requires { IsTriInBox (2 ^ 18) tri }
+    requires { IsTriInBox largest_side tri }
     ensures value { vector_of result ≡ Planes.normal_of tri }
     ensures within { IsVectorWithin (2 ^ 37) (vector_of result) }
 {
@@ -91,9 +92,9 @@ fn longest_axis(m: Vector) -> Vector
 // The plane through u and v that is parallel to an axis, turned towards w.
 #[tactic(auto, using(vectors::proofs::VectorLemmas::wider))]
 fn side_through(u: Point, v: Point, w: Point, axis: Vector) -> Plane
-    requires u_in { IsInBox (2 ^ 18) u }
-    requires v_in { IsInBox (2 ^ 18) v }
-    requires w_in { IsInBox (2 ^ 18) w }
+    requires u_in { IsInBox largest_side u }
+    requires v_in { IsInBox largest_side v }
+    requires w_in { IsInBox largest_side w }
     requires axis_in { IsVectorWithin 1 (vector_of axis) }
     ensures { result ≡ side_of u v w (vector_of axis) }
 {
@@ -105,7 +106,7 @@ fn side_through(u: Point, v: Point, w: Point, axis: Vector) -> Plane
 #[tactic(auto, using(vectors::proofs::VectorLemmas::wider))]
 fn turn(m: Vector, d: Vector) -> Vector
     requires m_in { IsVectorWithin (2 ^ 37) (vector_of m) }
-    requires d_in { IsVectorWithin (2 ^ 18) (vector_of d) }
+    requires d_in { IsVectorWithin largest_side (vector_of d) }
     ensures value { vector_of result ≡ turned (vector_of m) (vector_of d) }
     ensures within { IsVectorWithin (2 ^ 37) (vector_of result) }
 {

@@ -4,6 +4,7 @@ use Rattle.std.specs.Prelude.{codes, ℤ, pos, IfSome}
 use Rattle.std.specs.List.{AllByRecursion as Each}
 use Rattle.std.proofs.lemmas.List.Elements.{All-head, All-tail}
 use Rattle.grid.specs.Simplices.{Rises}
+use Rattle.grid.specs.Limits.{largest_side, most_epsilon, most_input}
 use Rattle.lines.specs.Forms.{repeat}
 use Rattle.lines.specs.Fields.{Between, Within}
 use Rattle.lines.proofs.ForCallers.{CanSay, says_done, says_field, says_then, says_fixed, says_all, is_text, three_items}
@@ -42,7 +43,7 @@ all_above : (xs : List ℕ) → Each (λ t. 0 ≤ t) xs
 all_above [] = tt
 all_above (x ∷ xs) = (omega arith, all_above xs)
 
-module _ (side : ℕ) (shift : List ℤ) (small : side ≤ 2 ^ 18) (three : length shift ≡ 3) (near : All (Within (2 * 10 ^ 9)) shift) where
+module _ (side : ℕ) (shift : List ℤ) (small : side ≤ largest_side) (three : length shift ≡ 3) (near : All (Within (2 * 10 ^ 9)) shift) where
   -- ---- triangles
   one_more_outcome : (before : List Outcome) (o : Outcome) (later : List Outcome) → All (IsPlainOutcome side) (o ∷ later) → CanSay (more_outcomes side shift before) (before ++ o ∷ [])
   unfolding more_outcomes
@@ -97,14 +98,14 @@ says_faces faces are = says_all more_faces (λ xs. xs) (λ before later. All IsP
 says_report : (r : Report) → IsPlainReport r → CanSay report_rules r
 unfolding report_rules
 says_report r is =
-    let small : is.side ≤ 2 ^ 18 = is.side_allowed.0.1 in
+    let small : is.side ≤ largest_side = is.side_allowed.0.1 in
     says_then tt (says_fixed (codes "tetsoup report 1\n"))
-    (says_then r.epsilon (says_named (codes "epsilon ") (Between 1 4095) r.epsilon is.epsilon_in_range)
+    (says_then r.epsilon (says_named (codes "epsilon ") (Between 1 most_epsilon) r.epsilon is.epsilon_in_range)
     (says_then r.cells (says_named (codes "cells ") IsCells r.cells is.cells_allowed)
     (says_then r.budget (says_named (codes "budget ") (Between 0 1000000) r.budget (omega arith, is.budget_few))
     (says_then (r.digits, is.side) (says_size r.digits is.side is.digits_few is.side_allowed)
     (says_then r.shift (says_shift r.shift is.shift_three is.shift_near)
-    (says_then (length r.outcomes) (says_named (codes "triangles ") (Between 0 (2 ^ 20)) (length r.outcomes) (omega arith, is.triangles_few))
+    (says_then (length r.outcomes) (says_named (codes "triangles ") (Between 0 most_input) (length r.outcomes) (omega arith, is.triangles_few))
     (says_then r.outcomes (says_outcomes is.side r.shift small is.shift_three is.shift_near r.outcomes is.outcomes_are)
     (says_then (record { journal = r.journal; end = r.end }) (says_journal r.budget (record { journal = r.journal; end = r.end }) is.tries_few is.tries_are)
     (says_then (r.second, length r.faces) (says_second is.side r.shift small is.shift_three is.shift_near (length r.outcomes) r.budget (length r.journal.lines) (length r.faces) r.second is.second_is is.faces_few)

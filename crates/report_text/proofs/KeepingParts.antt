@@ -7,6 +7,7 @@ use Rattle.grid.specs.declared.shapes.Point.{Point}
 use Rattle.grid.specs.Boxes.{IsUpTo, IsInBox}
 use Rattle.grid.specs.Determinants.{origin}
 use Rattle.grid.specs.Simplices.{Rises}
+use Rattle.grid.specs.Limits.{largest_side, most_input, most_points}
 use Rattle.lines.specs.Fields.{space, Between, Within}
 use Rattle.lines.proofs.ForCallers.{CanSay, says_done, says_field, says_then, says_fixed, says_all, three_items, four_items}
 use Rattle.mesh_types.specs.declared.cert.Cert.{Cert, out-Cert, roll-Cert, roll-out-Cert}
@@ -35,14 +36,14 @@ pub says_named : (name : List ℕ) (Allowed : ℕ → Type 0) (n : ℕ) → Allo
 says_named name Allowed n allowed = says_then tt (says_fixed name) (says_field n allowed)
 
 -- ---- points
-says_grid : (side : ℕ) (shift : ℤ) (end : ℕ) (z : ℤ) → side ≤ 2 ^ 18 → unsigned_abs shift ≤ 2 * 10 ^ 9 → IsUpTo side z → CanSay (grid_number side shift end) z
+says_grid : (side : ℕ) (shift : ℤ) (end : ℕ) (z : ℤ) → side ≤ largest_side → unsigned_abs shift ≤ 2 * 10 ^ 9 → IsUpTo side z → CanSay (grid_number side shift end) z
 unfolding grid_number
 says_grid side shift end z small near is =
-    let size : unsigned_abs (z +ℤ shift) ≤ 2 * 10 ^ 9 + 2 ^ 18 = omega (arith, ints, small, near, is.low, is.high) in
+    let size : unsigned_abs (z +ℤ shift) ≤ 2 * 10 ^ 9 + largest_side = omega (arith, ints, small, near, is.low, is.high) in
     let back : (z +ℤ shift) -ℤ shift ≡ z = omega (arith, ints) in
     says_then (z +ℤ shift) (says_field (z +ℤ shift) (size, omega (arith, ints, is.low), omega (arith, ints, is.high))) (says_done back)
 
-module _ (side : ℕ) (shift : List ℤ) (small : side ≤ 2 ^ 18) (three : length shift ≡ 3) (near : All (Within (2 * 10 ^ 9)) shift) where
+module _ (side : ℕ) (shift : List ℤ) (small : side ≤ largest_side) (three : length shift ≡ 3) (near : All (Within (2 * 10 ^ 9)) shift) where
   says_point : (end : ℕ) (p : Point) → IsInBox side p → CanSay (point side shift end) p
   unfolding point
   says_point end p is =
@@ -86,29 +87,29 @@ module _ (side : ℕ) (shift : List ℤ) (small : side ≤ 2 ^ 18) (three : leng
   says_outcome (outcomes.RolledBack defect) is = says_defect defect is
 
 -- ---- tries
-says_vertex : (low u : ℕ) → low ≤ u + 1 → u < 2 ^ 20 → CanSay (vertex low) u
+says_vertex : (low u : ℕ) → low ≤ u + 1 → u < most_points → CanSay (vertex low) u
 unfolding vertex
 says_vertex low u above few = says_then (u + 1) (says_field (u + 1) (above, omega (arith, few))) (says_done (omega arith))
 
-says_other : (u v : ℕ) → v < 2 ^ 20 → u ≢ v → CanSay (other_vertex u) v
+says_other : (u v : ℕ) → v < most_points → u ≢ v → CanSay (other_vertex u) v
 unfolding other_vertex
 says_other u v few differ = says_then (v + 1) (says_field (v + 1) ((omega arith, omega (arith, few)), λ e. differ (omega (arith, e)))) (says_done (omega arith))
 
 says_try : (t : Try) → IsPlainTry t → CanSay attempt t
 unfolding attempt
 says_try (tries.Split u v) is =
-    let low : u < 2 ^ 20 = omega (arith, is.0, is.1) in
+    let low : u < most_points = omega (arith, is.0, is.1) in
     says_then try_kinds.Split (says_one try_kinds.Split) (says_then u (says_vertex 1 u (omega arith) low) (says_then v (says_vertex (u + 2) v (omega (arith, is.0)) is.1) (says_done refl)))
 says_try (tries.Shift u way) is =
     says_then try_kinds.Shift (says_one try_kinds.Shift) (says_then u (says_vertex 1 u (omega arith) is.0) (says_then way (says_field way (omega arith, is.1)) (says_done refl)))
 says_try (tries.Collapse u v) is =
     says_then try_kinds.Collapse (says_one try_kinds.Collapse) (says_then u (says_vertex 1 u (omega arith) is.0) (says_then v (says_other u v is.1 is.2) (says_done refl)))
 says_try (tries.FaceSwap a b c) is =
-    let middle : b < 2 ^ 20 = omega (arith, is.1, is.2) in
-    let low : a < 2 ^ 20 = omega (arith, is.0, middle) in
+    let middle : b < most_points = omega (arith, is.1, is.2) in
+    let low : a < most_points = omega (arith, is.0, middle) in
     says_then try_kinds.FaceSwap (says_one try_kinds.FaceSwap) (says_then a (says_vertex 1 a (omega arith) low) (says_then b (says_vertex (a + 2) b (omega (arith, is.0)) middle) (says_then c (says_vertex (b + 2) c (omega (arith, is.1)) is.2) (says_done refl))))
 says_try (tries.EdgeSwap u v) is =
-    let low : u < 2 ^ 20 = omega (arith, is.0, is.1) in
+    let low : u < most_points = omega (arith, is.0, is.1) in
     says_then try_kinds.EdgeSwap (says_one try_kinds.EdgeSwap) (says_then u (says_vertex 1 u (omega arith) low) (says_then v (says_vertex (u + 2) v (omega (arith, is.0)) is.1) (says_done refl)))
 
 -- the later tries are plain
@@ -134,7 +135,7 @@ is_leaf c t top = sym (roll-out-Cert (certs.Leaf t)) ∙ ap roll-Cert (out-Leaf 
 is_split : (c : Cert) (parts : List Cert) → out-Cert c ≡ open_cert.Split parts → certs.Split parts ≡ c
 is_split c parts top = sym (roll-out-Cert (certs.Split parts)) ∙ ap roll-Cert (out-Split parts ∙ sym top) ∙ roll-out-Cert c
 
-says_leaf : (levels end t : ℕ) (c : Cert) → t < 2 ^ 20 → out-Cert c ≡ open_cert.Leaf t → CanSay (certificate levels end) c
+says_leaf : (levels end t : ℕ) (c : Cert) → t < most_input → out-Cert c ≡ open_cert.Leaf t → CanSay (certificate levels end) c
 unfolding certificate
 says_leaf zero end t c small top = says_then (Some t) (says_field (Some t) small) (says_done (is_leaf c t top))
 says_leaf (suc levels) end t c small top = says_then (Some t) (says_field (Some t) small) (says_done (is_leaf c t top))
@@ -169,9 +170,9 @@ one_more_face before f later fit =
     let at : ℕ → ℕ = λ i. get_or f.face.0 i 0 in
     let items = three_items f.face.0 is.three 0 0 0 in
     let rise : Rises (at 0 ∷ at 1 ∷ at 2 ∷ []) = subst Rises items is.rises in
-    let a_in : Between 1 (2 ^ 20) (at 0) = is.in_range 0 0 (omega (arith, is.three)) in
-    let b_in : Between 1 (2 ^ 20) (at 1) = is.in_range 1 0 (omega (arith, is.three)) in
-    let c_in : Between 1 (2 ^ 20) (at 2) = is.in_range 2 0 (omega (arith, is.three)) in
+    let a_in : Between 1 most_points (at 0) = is.in_range 0 0 (omega (arith, is.three)) in
+    let b_in : Between 1 most_points (at 1) = is.in_range 1 0 (omega (arith, is.three)) in
+    let c_in : Between 1 most_points (at 2) = is.in_range 2 0 (omega (arith, is.three)) in
     says_then tt (says_fixed (codes "f "))
     (says_then (at 0) (says_field (at 0) a_in)
     (says_then (at 1) (says_field (at 1) (omega (arith, rise.0.0), b_in.1))

@@ -25,6 +25,7 @@ use Rattle.report_text.specs.Rules.{why_text, verdict_text, certificate_text, Ce
 use Rattle.mesh_types.specs.declared.outcome.Outcome.{Outcome}
 use Rattle.mesh_types.specs.declared.outcome.Again.{Again}
 use Rattle.std.proofs.lemmas.List.{length-append}
+use Rattle.grid.specs.Limits.{largest_side, most_epsilon, most_input, most_points}
 use Rattle.mesh_types.specs.declared.tries.End.{End}
 use Rattle.mesh_types.specs.declared.tries.End.TheVariants as ends
 use Rattle.mesh_types.specs.declared.tries.TryLine.{TryLine}
@@ -42,7 +43,7 @@ why_once whys.Uncovered whys.Uncovered rest more e = (refl, ap (drop 18) e)
 why_once x y rest more e = absurd (apart_differs (why_text x) (why_text y) rest more refl e)
 
 -- ---- certificates
-pub no_bracket : (end t : ℕ) (rest more : List ℕ) → is_ascii_digit end ≡ false → t < 2 ^ 20 → word end t ++ rest ≡ 40 ∷ more → ⊥
+pub no_bracket : (end t : ℕ) (rest more : List ℕ) → is_ascii_digit end ≡ false → t < most_input → word end t ++ rest ≡ 40 ∷ more → ⊥
 no_bracket end t rest more no_digit small e = none_empty (40 ∷ more) refl t (end ∷ rest) (record {
   fits = omega arith;
   spells = sym e ∙ append_assoc (decimal t) (end ∷ []) rest;
@@ -51,7 +52,7 @@ no_bracket end t rest more no_digit small e = none_empty (40 ∷ more) refl t (e
 
 certificate_once : (levels end : ℕ) → is_ascii_digit end ≡ false → (x y : Option ℕ) (rest more : List ℕ) → CertificateAllowed levels x → CertificateAllowed levels y → certificate_text end x ++ rest ≡ certificate_text end y ++ more → (x ≡ y) × (rest ≡ more)
 certificate_once levels end no_digit (Some s) (Some t) rest more allowed other e =
-    let same = (word_clear end (λ n. n < 2 ^ 20) no_digit (λ n h. omega arith)).same s t rest more allowed other e in
+    let same = (word_clear end (λ n. n < most_input) no_digit (λ n h. omega arith)).same s t rest more allowed other e in
     (ap (λ (n : ℕ). Some n) same.0, same.1)
 certificate_once levels end no_digit None None rest more allowed other e = (refl, ap (drop 1) e)
 certificate_once levels end no_digit (Some t) None rest more allowed other e = absurd (no_bracket end t rest more no_digit allowed e)
@@ -118,11 +119,11 @@ names_clear name Allowed small = (fixed_clear name, λ u b r h. word_clear feed 
 
 vertex_clear : (low : ℕ) → IsClear (vertex low)
 unfolding IsClear vertex
-vertex_clear low = (numbers_clear low (2 ^ 20) space refl (omega arith), λ n b r h. tt)
+vertex_clear low = (numbers_clear low most_points space refl (omega arith), λ n b r h. tt)
 
 other_clear : (u : ℕ) → IsClear (other_vertex u)
 unfolding IsClear other_vertex
-other_clear u = (word_clear space (λ n. Between 1 (2 ^ 20) n × (n ≢ u + 1)) refl (λ n h. omega (arith, h.0.1)), λ n b r h. tt)
+other_clear u = (word_clear space (λ n. Between 1 most_points n × (n ≢ u + 1)) refl (λ n h. omega (arith, h.0.1)), λ n b r h. tt)
 
 try_behind_clear : (kind : TryKind) → IsClear (try_behind kind)
 unfolding IsClear
@@ -154,7 +155,7 @@ journal_clear most small = (
 -- ---- points
 grid_clear : (side : ℕ) (s : ℤ) (end : ℕ) → is_ascii_digit end ≡ false → IsClear (grid_number side s end)
 unfolding IsClear grid_number
-grid_clear side s end no_digit = (record { same = λ y z rest more allowed other e. (coordinate_clear 0 end (2 * 10 ^ 9 + 2 ^ 18) no_digit (omega arith)).same y z rest more allowed.0 other.0 e }, λ z b r h. tt)
+grid_clear side s end no_digit = (record { same = λ y z rest more allowed other e. (coordinate_clear 0 end (2 * 10 ^ 9 + largest_side) no_digit (omega arith)).same y z rest more allowed.0 other.0 e }, λ z b r h. tt)
 
 point_clear : (side : ℕ) (shift : List ℤ) (end : ℕ) → is_ascii_digit end ≡ false → IsClear (point side shift end)
 unfolding IsClear point
@@ -171,7 +172,7 @@ four_clear side shift = (point_clear side shift space refl, λ p b r h. (point_c
 -- ---- outcomes
 outcome_behind_clear : (side : ℕ) (shift : List ℤ) (kind : OutcomeKind) → IsClear (outcome_behind side shift kind)
 unfolding IsClear
-outcome_behind_clear side shift outcome_kinds.Inserted = (numbers_clear 0 (2 ^ 20) feed refl (omega arith), λ n b r h. tt)
+outcome_behind_clear side shift outcome_kinds.Inserted = (numbers_clear 0 most_points feed refl (omega arith), λ n b r h. tt)
 outcome_behind_clear side shift outcome_kinds.Degenerate = tt
 outcome_behind_clear side shift outcome_kinds.Full = tt
 outcome_behind_clear side shift outcome_kinds.Inverted = (four_clear side shift, λ ps b r h. tt)
@@ -189,11 +190,11 @@ unfolding IsClear more_faces
 faces_clear before = (
   fixed_clear (codes "f "),
   λ u b r h. (
-    numbers_clear 1 (2 ^ 20) space refl (omega arith),
+    numbers_clear 1 most_points space refl (omega arith),
     λ x b1 r1 h1. (
-      numbers_clear (x + 1) (2 ^ 20) space refl (omega arith),
+      numbers_clear (x + 1) most_points space refl (omega arith),
       λ y b2 r2 h2. (
-        numbers_clear (y + 1) (2 ^ 20) space refl (omega arith),
+        numbers_clear (y + 1) most_points space refl (omega arith),
         λ z b3 r3 h3.
             (certificate_clear 6 feed refl, λ cert b4 r4 h4. tt),
       ),
@@ -201,15 +202,15 @@ faces_clear before = (
   ),
 )
 
-more_outcomes_clear : (side : ℕ) (shift : List ℤ) (n : ℕ) (before : List Outcome) → length before + suc n ≤ 2 ^ 20 → IsClear (more_outcomes side shift before)
+more_outcomes_clear : (side : ℕ) (shift : List ℤ) (n : ℕ) (before : List Outcome) → length before + suc n ≤ most_input → IsClear (more_outcomes side shift before)
 unfolding IsClear more_outcomes
 more_outcomes_clear side shift n before room = (fixed_clear (codes "t "), λ u b r h. (numbers_clear (length before) (length before) space refl (omega (arith, room)), λ i b1 r1 h1. (outcome_clear side shift, λ o b2 r2 h2. tt)))
 
-pub outcomes_grow : (side : ℕ) (shift : List ℤ) (n : ℕ) (before after : List Outcome) (bytes rest : List ℕ) → length before + suc n ≤ 2 ^ 20 → Reads (more_outcomes side shift before) bytes after rest → length after + n ≤ 2 ^ 20
+pub outcomes_grow : (side : ℕ) (shift : List ℤ) (n : ℕ) (before after : List Outcome) (bytes rest : List ℕ) → length before + suc n ≤ most_input → Reads (more_outcomes side shift before) bytes after rest → length after + n ≤ most_input
 unfolding Reads more_outcomes
 outcomes_grow side shift n before after bytes rest room h = omega (arith, room, ap length h.3.3.3.0, length-append before (h.3.3.0 ∷ []))
 
-more_again_clear : (triangles side : ℕ) (shift : List ℤ) (before : List Again) → triangles ≤ 2 ^ 20 → IsClear (more_again triangles side shift before)
+more_again_clear : (triangles side : ℕ) (shift : List ℤ) (before : List Again) → triangles ≤ most_input → IsClear (more_again triangles side shift before)
 unfolding IsClear more_again
 more_again_clear triangles side shift before most =
     (fixed_clear (codes "t "), λ u b r h. (word_clear space (Between (least_next before) (triangles - 1)) refl (λ n k. omega (arith, k.1)), λ i b1 r1 h1. (outcome_clear side shift, λ o b2 r2 h2. tt)))
@@ -243,7 +244,7 @@ part_once part_kinds.Second part_kinds.Second rest more e = (refl, ap (drop 7) e
 part_once part_kinds.Tracked part_kinds.Tracked rest more e = (refl, ap (drop 8) e)
 part_once x y rest more e = absurd (apart_differs (part_kind_text x) (part_kind_text y) rest more refl e)
 
-part_behind_clear : (triangles side : ℕ) (shift : List ℤ) (most : ℕ) (kind : PartKind) → triangles ≤ 2 ^ 20 → most < 2 ^ 32 → IsClear (part_behind triangles side shift most kind)
+part_behind_clear : (triangles side : ℕ) (shift : List ℤ) (most : ℕ) (kind : PartKind) → triangles ≤ most_input → most < 2 ^ 32 → IsClear (part_behind triangles side shift most kind)
 unfolding IsClear
 part_behind_clear triangles side shift most part_kinds.Second fit low = (
   numbers_clear 1 triangles feed refl (omega arith),
@@ -255,7 +256,7 @@ part_behind_clear triangles side shift most part_kinds.Second fit low = (
 )
 part_behind_clear triangles side shift most part_kinds.Tracked fit low = (numbers_clear 0 (2 ^ 24) feed refl (omega arith), λ faces b r h. tt)
 
-second_clear : (triangles side : ℕ) (shift : List ℤ) (most : ℕ) → triangles ≤ 2 ^ 20 → most < 2 ^ 32 → IsClear (second_part triangles side shift most)
+second_clear : (triangles side : ℕ) (shift : List ℤ) (most : ℕ) → triangles ≤ most_input → most < 2 ^ 32 → IsClear (second_part triangles side shift most)
 unfolding IsClear second_part
 second_clear triangles side shift most fit low = (record { same = λ x y rest more a o e. part_once x y rest more e }, λ kind b r h. part_behind_clear triangles side shift most kind fit low)
 
@@ -269,7 +270,7 @@ unfolding IsClear report_rules
 report_clear = (
   fixed_clear (codes "tetsoup report 1\n"),
   λ u b1 r1 h1. (
-    names_clear (codes "epsilon ") (Between 1 4095) (λ n k. omega (arith, k.1)),
+    names_clear (codes "epsilon ") (Between 1 most_epsilon) (λ n k. omega (arith, k.1)),
     λ epsilon b2 r2 h2. (
       names_clear (codes "cells ") IsCells (λ n k. omega (arith, k.0.1)),
       λ cells b3 r3 h3. (
@@ -279,11 +280,11 @@ report_clear = (
           λ box b5 r5 h5. (
             shift_line_clear,
             λ shift b6 r6 h6. (
-              names_clear (codes "triangles ") (Between 0 (2 ^ 20)) (λ n k. omega (arith, k.1)),
+              names_clear (codes "triangles ") (Between 0 most_input) (λ n k. omega (arith, k.1)),
               λ triangles b7 r7 h7.
-                  let fit : triangles ≤ 2 ^ 20 = (named_is (codes "triangles ") (Between 0 (2 ^ 20)) triangles b7 r7 h7).1 in
+                  let fit : triangles ≤ most_input = (named_is (codes "triangles ") (Between 0 most_input) triangles b7 r7 h7).1 in
                   let low : budget ≤ 1000000 = (named_is (codes "budget ") (Between 0 1000000) budget b4 r4 h4).1 in (
-                    repeat_clear (more_outcomes box.1 shift) (λ k os. length os + k ≤ 2 ^ 20) (λ k os room. more_outcomes_clear box.1 shift k os room) (λ k os after bs rs room h. outcomes_grow box.1 shift k os after bs rs room h) triangles [] (omega arith),
+                    repeat_clear (more_outcomes box.1 shift) (λ k os. length os + k ≤ most_input) (λ k os room. more_outcomes_clear box.1 shift k os room) (λ k os after bs rs room h. outcomes_grow box.1 shift k os after bs rs room h) triangles [] (omega arith),
                     λ outcomes b8 r8 h8. (
                       journal_clear budget (omega arith),
                       λ tries b9 r9 h9. (

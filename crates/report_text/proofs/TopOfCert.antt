@@ -1,7 +1,8 @@
 -- The top of a certificate that is read.
-use Rattle.std.proofs.Common.{◌≡◌, ℕ, zero, suc, ◌-◌, ◌^◌, ◌<◌, false, List, ◌++◌, length, sym, subst, ◌∙◌, arith, Option, Some, None}
+use Rattle.std.proofs.Common.{◌≡◌, ℕ, zero, suc, ◌-◌, ◌<◌, false, List, ◌++◌, length, sym, subst, ◌∙◌, arith, Option, Some, None}
 use Rattle.std.specs.Prelude.{codes, MatchOption}
 use Rattle.std.specs.Char.{is_ascii_digit}
+use Rattle.grid.specs.Limits.{most_input}
 use Rattle.lines.specs.declared.stop.Stop.{Stop}
 use Rattle.lines.specs.declared.stop.Stop.TheVariants as stops
 use Rattle.lines.specs.Forms.{field, Reads, Breaks, IsBad}
@@ -25,11 +26,11 @@ module _ (levels end : ℕ) (bytes : List ℕ) where
   pub split_reads : (rest : List ℕ) → 0 < levels → bytes ≡ codes "(" ++ rest → Reads (field (certificate_text end) (CertificateAllowed levels)) bytes None rest
   split_reads rest some is = field_reads (certificate_text end) (CertificateAllowed levels) bytes None rest some is
 
-  pub leaf_reads : (t : ℕ) (rest : List ℕ) → Reads (number end (Between 0 (2 ^ 20 - 1))) bytes t rest → Reads (field (certificate_text end) (CertificateAllowed levels)) bytes (Some t) rest
+  pub leaf_reads : (t : ℕ) (rest : List ℕ) → Reads (number end (Between 0 (most_input - 1))) bytes t rest → Reads (field (certificate_text end) (CertificateAllowed levels)) bytes (Some t) rest
   unfolding Reads
   leaf_reads t rest h = record { allowed = omega (arith, h.allowed.1); spells = h.spells }
 
-  pub leaf_fails : (e : Stop) → Lacks bytes (codes "(") → Fails (number end (Between 0 (2 ^ 20 - 1))) bytes e → Fails (field (certificate_text end) (CertificateAllowed levels)) bytes e
+  pub leaf_fails : (e : Stop) → Lacks bytes (codes "(") → Fails (number end (Between 0 (most_input - 1))) bytes e → Fails (field (certificate_text end) (CertificateAllowed levels)) bytes e
   unfolding Breaks
   leaf_fails (stops.At left) lacks h = (cases, h.1)
     where

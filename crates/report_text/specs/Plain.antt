@@ -3,6 +3,7 @@ use Rattle.std.specs.Prelude.{◌≡◌, ◌≢◌, ℕ, zero, suc, ◌+◌, ◌
 use Rattle.grid.specs.declared.shapes.Point.{Point}
 use Rattle.grid.specs.Boxes.{IsInBox}
 use Rattle.grid.specs.Simplices.{Rises}
+use Rattle.grid.specs.Limits.{most_epsilon, most_input, most_points}
 use Rattle.lines.specs.Fields.{Between, Within}
 use Rattle.mesh_types.specs.declared.cert.Cert.{Cert, out-Cert}
 use Rattle.mesh_types.specs.declared.cert.Cert.TheOpen.{Cert-F}
@@ -38,7 +39,7 @@ IsPlainDefect side (defects.Uncovered ps) = ArePoints side 3 ps
 
 -- at most 2^20 new points, or such a defect
 abbrev pub IsPlainOutcome : (side : ℕ) → Outcome → Type 0
-IsPlainOutcome side (outcomes.Inserted n) = n ≤ 2 ^ 20
+IsPlainOutcome side (outcomes.Inserted n) = n ≤ most_points
 IsPlainOutcome side (outcomes.RolledBack defect) = IsPlainDefect side defect
 
 -- the second outcome of one of so many triangles
@@ -49,11 +50,11 @@ pub record IsPlainAgain (side triangles : ℕ) (a : Again) : Type 0 where
 -- ---- tries
 -- numbers of points below 2^20: the ends of an edge and the corners of a face rise, and the two points of a collapse differ
 abbrev pub IsPlainTry : Try → Type 0
-IsPlainTry (tries.Split u v) = (u < v) × (v < 2 ^ 20)
-IsPlainTry (tries.Shift u way) = (u < 2 ^ 20) × (way ≤ 1)
-IsPlainTry (tries.Collapse u v) = (u < 2 ^ 20) × (v < 2 ^ 20) × (u ≢ v)
-IsPlainTry (tries.FaceSwap a b c) = (a < b) × (b < c) × (c < 2 ^ 20)
-IsPlainTry (tries.EdgeSwap u v) = (u < v) × (v < 2 ^ 20)
+IsPlainTry (tries.Split u v) = (u < v) × (v < most_points)
+IsPlainTry (tries.Shift u way) = (u < most_points) × (way ≤ 1)
+IsPlainTry (tries.Collapse u v) = (u < most_points) × (v < most_points) × (u ≢ v)
+IsPlainTry (tries.FaceSwap a b c) = (a < b) × (b < c) × (c < most_points)
+IsPlainTry (tries.EdgeSwap u v) = (u < v) × (v < most_points)
 
 abbrev pub ArePlainTries : List TryLine → Type 0
 ArePlainTries lines = All (λ line. IsPlainTry line.attempt) lines
@@ -61,7 +62,7 @@ ArePlainTries lines = All (λ line. IsPlainTry line.attempt) lines
 -- ---- certificates
 -- the number of a triangle, or parts of which parts_are says the same
 abbrev pub IsPlainTop : (parts_are : List Cert → Type 0) → Cert-F Cert → Type 0
-IsPlainTop parts_are (open_cert.Leaf t) = t < 2 ^ 20
+IsPlainTop parts_are (open_cert.Leaf t) = t < most_input
 IsPlainTop parts_are (open_cert.Split parts) = parts_are parts
 
 -- a certificate of at most that many levels of splits, each of which has four parts
@@ -73,7 +74,7 @@ IsPlainCert (suc levels) c = IsPlainTop (λ parts. (length parts ≡ 4) × All (
 pub record IsPlainCovering (f : Covering) : Type 0 where
   pub three : length f.face.0 ≡ 3
   pub rises : Rises f.face.0
-  pub in_range : All (Between 1 (2 ^ 20)) f.face.0
+  pub in_range : All (Between 1 most_points) f.face.0
   pub cert_is : IsPlainCert 6 f.cert
 
 -- ---- the whole report
@@ -89,13 +90,13 @@ pub record IsPlainReport (r : Report) : Type 0 where
   pub side : ℕ
   pub side_is : r.side ≡ pos side
   pub side_allowed : IsSide side
-  pub epsilon_in_range : Between 1 4095 r.epsilon
+  pub epsilon_in_range : Between 1 most_epsilon r.epsilon
   pub cells_allowed : IsCells r.cells
   pub budget_few : r.budget ≤ 10 ^ 6
   pub digits_few : IfSome r.digits (λ d. d ≤ 5)
   pub shift_three : length r.shift ≡ 3
   pub shift_near : All (Within (2 * 10 ^ 9)) r.shift
-  pub triangles_few : length r.outcomes ≤ 2 ^ 20
+  pub triangles_few : length r.outcomes ≤ most_input
   pub outcomes_are : All (IsPlainOutcome side) r.outcomes
   pub tries_few : length r.journal.lines ≤ r.budget
   pub tries_are : ArePlainTries r.journal.lines

@@ -6,13 +6,14 @@ ghost use Rattle.lines.specs.Forms.{field};
 ghost use Rattle.lines.specs.Gives.{Gives};
 ghost use Rattle.report_text.specs.Rules.{certificate, certificate_text, CertificateAllowed};
 
+use grid::MOST_INPUT;
 use lines::{Stop, read_fixed, read_number, strip_text};
 use mesh_types::Cert;
 use sqlite_items::Boxed;
 use std::alloc::Global;
 
 // The largest number of a triangle.
-const LAST_TRIANGLE: u32 = (1 << 20) - 1;
+const LAST_TRIANGLE: u32 = MOST_INPUT - 1;
 
 // A leaf and the byte that ends it, or nothing where a split begins.
 fn read_top(bytes: &[u8], levels: u32, end: u8) -> Result<(Option<u32>, &[u8]), Stop>

@@ -1,5 +1,6 @@
 //! The head of a report text, read by its rules.
 
+ghost use Rattle.grid.specs.Limits.{largest_side};
 ghost use Rattle.std.specs.Prelude.{◌≡◌, ◌≤◌, ◌*◌, ◌^◌, codes, unsigned_abs, All, IfOk};
 ghost use Rattle.lines.specs.Fields.{feed, number};
 ghost use Rattle.lines.specs.Gives.{Gives};
@@ -9,6 +10,7 @@ ghost use Rattle.report_text.specs.Rules.{is_one_of, sides, cell_counts, IsSide,
 use crate::kinds::SizeKind;
 use crate::read_kinds::read_size_kind;
 use crate::report::Size;
+use grid::LARGEST_SIDE;
 use lines::{Stop, read_coordinate, read_fixed, read_number};
 
 // The largest number of a shift in absolute value.
@@ -56,9 +58,9 @@ pub fn read_cells(bytes: &[u8]) -> Result<(u32, &[u8]), Stop>
 
 fn read_side(bytes: &[u8]) -> Result<(u32, &[u8]), Stop>
     ensures gives { Gives (λ n. n) (number feed IsSide) bytes.now result }
-    ensures small { IfOk result (λ r. r.0 ≤ 2 ^ 18) }
+    ensures small { IfOk result (λ r. r.0 ≤ largest_side) }
 {
-    let (side, rest) = read_number(bytes, b'\n', 16, 1 << 18)?;
+    let (side, rest) = read_number(bytes, b'\n', 16, LARGEST_SIDE)?;
     if !is_side(side) {
         return Err(Stop::At(bytes.len()));
     }
@@ -67,7 +69,7 @@ fn read_side(bytes: &[u8]) -> Result<(u32, &[u8]), Stop>
 
 fn read_side_alone(bytes: &[u8]) -> Result<(Size, &[u8]), Stop>
     ensures gives { Gives (λ s. (s.digits, s.side)) (size_behind size_kinds.Side) bytes.now result }
-    ensures small { IfOk result (λ r. r.0.side ≤ 2 ^ 18) }
+    ensures small { IfOk result (λ r. r.0.side ≤ largest_side) }
 {
     let (side, rest) = read_side(bytes)?;
     Ok((Size { digits: None, side }, rest))
@@ -75,7 +77,7 @@ fn read_side_alone(bytes: &[u8]) -> Result<(Size, &[u8]), Stop>
 
 fn read_digits_and_side(bytes: &[u8]) -> Result<(Size, &[u8]), Stop>
     ensures gives { Gives (λ s. (s.digits, s.side)) (size_behind size_kinds.Digits) bytes.now result }
-    ensures small { IfOk result (λ r. r.0.side ≤ 2 ^ 18) }
+    ensures small { IfOk result (λ r. r.0.side ≤ largest_side) }
 {
     let (digits, rest) = read_number(bytes, b'\n', 0, 5)?;
     let rest = read_fixed(rest, b"box ")?;
@@ -87,7 +89,7 @@ fn read_digits_and_side(bytes: &[u8]) -> Result<(Size, &[u8]), Stop>
 /// Reads the digits, which may be absent, and the side.
 pub fn read_size(bytes: &[u8]) -> Result<(Size, &[u8]), Stop>
     ensures gives { Gives (λ s. (s.digits, s.side)) size bytes.now result }
-    ensures small { IfOk result (λ r. r.0.side ≤ 2 ^ 18) }
+    ensures small { IfOk result (λ r. r.0.side ≤ largest_side) }
 {
     let (kind, rest) = read_size_kind(bytes)?;
     match kind {

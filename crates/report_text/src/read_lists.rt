@@ -1,5 +1,6 @@
 //! The lists of a report text, read by its rules.
 
+ghost use Rattle.grid.specs.Limits.{largest_side};
 ghost use Rattle.std.specs.Prelude.{◌≡◌, ◌≤◌, ◌*◌, ◌^◌, [], unsigned_abs, All};
 ghost use Rattle.lines.specs.Forms.{repeat};
 ghost use Rattle.lines.specs.Gives.{Gives};
@@ -7,9 +8,8 @@ ghost use Rattle.report_text.specs.Rules.{more_outcomes, more_again, more_faces}
 
 use crate::read_cert::read_cert;
 use crate::read_outcome::read_outcome;
-use crate::read_words::MOST_POINTS;
 use crate::report::Covering;
-use grid::Face;
+use grid::{Face, MOST_POINTS};
 use lines::{Stop, read_fixed, read_number};
 use mesh_types::{Again, Outcome};
 use std::alloc::Global;
@@ -25,7 +25,7 @@ pub fn read_outcomes<'a>(
     side: u32,
     shift: [i64; 3],
 ) -> Result<(Vec<Outcome>, &'a [u8]), Stop>
-    requires side { side ≤ 2 ^ 18 }
+    requires side { side ≤ largest_side }
     requires near { All (λ s. unsigned_abs s ≤ 2 * 10 ^ 9) shift }
     ensures { Gives (λ v. v.items) (repeat (more_outcomes side shift) count []) bytes.now result }
 {
@@ -51,7 +51,7 @@ pub fn read_again<'a>(
     shift: [i64; 3],
 ) -> Result<(Vec<Again>, &'a [u8]), Stop>
     requires some { 1 ≤ triangles }
-    requires side { side ≤ 2 ^ 18 }
+    requires side { side ≤ largest_side }
     requires near { All (λ s. unsigned_abs s ≤ 2 * 10 ^ 9) shift }
     ensures { Gives (λ v. v.items) (repeat (more_again triangles side shift) count []) bytes.now result }
 {

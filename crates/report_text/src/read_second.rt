@@ -1,5 +1,6 @@
 //! The part of a report text behind the first tries, read by its rules.
 
+ghost use Rattle.grid.specs.Limits.{largest_side};
 ghost use Rattle.std.specs.Prelude.{◌≡◌, ◌≤◌, ◌*◌, ◌^◌, [], unsigned_abs, All};
 ghost use Rattle.lines.specs.Gives.{Gives};
 ghost use Rattle.report_text.specs.declared.kinds.PartKind.TheVariants as part_kinds;
@@ -39,7 +40,7 @@ fn read_members<'a>(
     shift: [i64; 3],
     most: u32,
 ) -> Result<(Tail, &'a [u8]), Stop>
-    requires side { side ≤ 2 ^ 18 }
+    requires side { side ≤ largest_side }
     requires near { All (λ s. unsigned_abs s ≤ 2 * 10 ^ 9) shift }
     ensures { Gives (λ t. (t.second, t.faces)) (part_behind triangles side shift most part_kinds.Second) bytes.now result }
 {
@@ -70,7 +71,7 @@ pub fn read_second<'a>(
     shift: [i64; 3],
     most: u32,
 ) -> Result<(Tail, &'a [u8]), Stop>
-    requires side { side ≤ 2 ^ 18 }
+    requires side { side ≤ largest_side }
     requires near { All (λ s. unsigned_abs s ≤ 2 * 10 ^ 9) shift }
     ensures { Gives (λ t. (t.second, t.faces)) (second_part triangles side shift most) bytes.now result }
 {

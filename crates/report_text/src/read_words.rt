@@ -1,19 +1,17 @@
 //! Numbers and points of a report text, read by its rules.
 
+ghost use Rattle.grid.specs.Limits.{largest_side, most_points};
 ghost use Rattle.std.specs.Prelude.{◌≡◌, ◌≤◌, ◌<◌, ◌*◌, ◌^◌, ◌+◌, ◌-ℤ◌, ◌≤ℤ◌, ℕ, pos, slice_index_or, unsigned_abs, true, false, All, IfOk, MatchOption};
 ghost use Rattle.std.specs.Char.{is_ascii_digit};
 ghost use Rattle.lines.specs.Fields.{Between};
 ghost use Rattle.lines.specs.Gives.{Gives};
 ghost use Rattle.report_text.specs.Rules.{IsGrid, named, vertex, other_vertex, grid_number, point, three_points, four_points};
 
-use grid::Point;
+use grid::{MOST_POINTS, Point};
 use lines::{Stop, read_coordinate, read_fixed, read_number};
 
 // The largest coordinate in absolute value: 2 * 10^9 and the largest side.
 const FARTHEST: u32 = 2_000_262_144;
-
-/// The largest number of a point.
-pub const MOST_POINTS: u32 = 1 << 20;
 
 /// Reads a number behind a name, on a line of its own.
 pub fn read_named<'a>(
@@ -33,7 +31,7 @@ pub fn read_named<'a>(
 pub fn read_vertex(bytes: &[u8], low: u32) -> Result<(u32, &[u8]), Stop>
     requires { 1 ≤ low }
     ensures gives { Gives (λ n. n) (vertex low) bytes.now result }
-    ensures small { IfOk result (λ r. r.0 < 2 ^ 20) }
+    ensures small { IfOk result (λ r. r.0 < most_points) }
 {
     let (n, rest) = read_number(bytes, b' ', low, MOST_POINTS)?;
     Ok((n - 1, rest))
@@ -41,7 +39,7 @@ pub fn read_vertex(bytes: &[u8], low: u32) -> Result<(u32, &[u8]), Stop>
 
 /// Reads the number of a point other than u.
 pub fn read_other_vertex(bytes: &[u8], u: u32) -> Result<(u32, &[u8]), Stop>
-    requires { u < 2 ^ 20 }
+    requires { u < most_points }
     ensures { Gives (λ n. n) (other_vertex u) bytes.now result }
 {
     let (n, rest) = read_number(bytes, b' ', 1, MOST_POINTS)?;
@@ -53,9 +51,9 @@ pub fn read_other_vertex(bytes: &[u8], u: u32) -> Result<(u32, &[u8]), Stop>
 
 // The coordinate without the shift, where that lies in the box.
 fn grid_of(z: i64, shift: i64, side: u32) -> Option<i32>
-    requires side { side ≤ 2 ^ 18 }
+    requires side { side ≤ largest_side }
     requires near { unsigned_abs shift ≤ 2 * 10 ^ 9 }
-    requires small { unsigned_abs z ≤ 2 * 10 ^ 9 + 2 ^ 18 }
+    requires small { unsigned_abs z ≤ 2 * 10 ^ 9 + largest_side }
     ensures { MatchOption result (IsGrid side shift z → ⊥) (λ g. (g ≡ z -ℤ shift) × IsGrid side shift z) }
 {
     let moved = z - shift;
@@ -69,7 +67,7 @@ fn grid_of(z: i64, shift: i64, side: u32) -> Option<i32>
 }
 
 fn read_grid(bytes: &[u8], side: u32, shift: i64, end: u8) -> Result<(i32, &[u8]), Stop>
-    requires side { side ≤ 2 ^ 18 }
+    requires side { side ≤ largest_side }
     requires near { unsigned_abs shift ≤ 2 * 10 ^ 9 }
     requires end { is_ascii_digit end ≡ false }
     ensures { Gives (λ z. z) (grid_number side shift end) bytes.now result }
@@ -82,7 +80,7 @@ fn read_grid(bytes: &[u8], side: u32, shift: i64, end: u8) -> Result<(i32, &[u8]
 }
 
 fn read_point(bytes: &[u8], side: u32, shift: [i64; 3], end: u8) -> Result<(Point, &[u8]), Stop>
-    requires side { side ≤ 2 ^ 18 }
+    requires side { side ≤ largest_side }
     requires near { All (λ s. unsigned_abs s ≤ 2 * 10 ^ 9) shift }
     requires end { is_ascii_digit end ≡ false }
     ensures { Gives (λ p. p) (point side shift end) bytes.now result }
@@ -96,7 +94,7 @@ fn read_point(bytes: &[u8], side: u32, shift: [i64; 3], end: u8) -> Result<(Poin
 
 /// Reads three points to the end of a line.
 pub fn read_three(bytes: &[u8], side: u32, shift: [i64; 3]) -> Result<([Point; 3], &[u8]), Stop>
-    requires side { side ≤ 2 ^ 18 }
+    requires side { side ≤ largest_side }
     requires near { All (λ s. unsigned_abs s ≤ 2 * 10 ^ 9) shift }
     ensures { Gives (λ ps. ps) (three_points side shift) bytes.now result }
 {
@@ -108,7 +106,7 @@ pub fn read_three(bytes: &[u8], side: u32, shift: [i64; 3]) -> Result<([Point; 3
 
 /// Reads four points to the end of a line.
 pub fn read_four(bytes: &[u8], side: u32, shift: [i64; 3]) -> Result<([Point; 4], &[u8]), Stop>
-    requires side { side ≤ 2 ^ 18 }
+    requires side { side ≤ largest_side }
     requires near { All (λ s. unsigned_abs s ≤ 2 * 10 ^ 9) shift }
     ensures { Gives (λ ps. ps) (four_points side shift) bytes.now result }
 {

@@ -13,11 +13,10 @@ use crate::read_lists::{read_faces, read_outcomes};
 use crate::read_second::read_second;
 use crate::read_words::read_named;
 use crate::report::{Report, Tries};
+use grid::{MOST_EPSILON, MOST_INPUT};
 use items::Items;
 use lines::{Stop, line_at, read_fixed};
 use std::alloc::Global;
-
-const MOST_TRIANGLES: u32 = 1 << 20;
 
 // How many tries are left of the budget.
 fn tries_left(budget: u32, tries: &Tries) -> u32
@@ -32,12 +31,12 @@ fn read_whole(alloc: Global, bytes: &[u8]) -> Result<(Report, &[u8]), Stop>
     ensures near { IfOk result (λ r. All (λ s. unsigned_abs s ≤ 2 * 10 ^ 9) r.0.shift) }
 {
     let rest = read_fixed(bytes, b"tetsoup report 1\n")?;
-    let (epsilon, rest) = read_named(rest, b"epsilon ", 1, 4095)?;
+    let (epsilon, rest) = read_named(rest, b"epsilon ", 1, MOST_EPSILON)?;
     let (cells, rest) = read_cells(rest)?;
     let (budget, rest) = read_named(rest, b"budget ", 0, 1_000_000)?;
     let (size, rest) = read_size(rest)?;
     let (shift, rest) = read_shift_line(rest)?;
-    let (count, rest) = read_named(rest, b"triangles ", 0, MOST_TRIANGLES)?;
+    let (count, rest) = read_named(rest, b"triangles ", 0, MOST_INPUT)?;
     let (outcomes, rest) = read_outcomes(alloc, rest, count, size.side, shift)?;
     let (tries, rest) = read_journal(alloc, rest, budget)?;
     let left = tries_left(budget, &tries);

@@ -7,7 +7,7 @@ use Rattle.std.proofs.lemmas.List.Elements.{All-from_recursion}
 use Rattle.int_algebra.specs.Within.{IsWithin}
 use Rattle.grid.specs.declared.shapes.Point.{Point}
 use Rattle.grid.specs.Boxes.{IsUpTo, IsInBox, IsTriInBox}
-use Rattle.grid.specs.Limits.{IsSide, IsCells}
+use Rattle.grid.specs.Limits.{IsSide, IsCells, largest_side}
 use Rattle.soup.specs.declared.raw.Raw.{Raw}
 use Rattle.soup.specs.Limits.{IsVertex, IsFaceBelow, largest_coordinate}
 use Rattle.soup.specs.Placement.{extent, room, side, placed_in, IsLeastSide, IsInItsBox, along, least, spread, start_along, start, placed_point, placed_triangle, power_from, IsInside, IsPointInside, IsTriInside}
@@ -18,10 +18,10 @@ use Rattle.soup.proofs.Ranges.{least_below, greatest_above, least-IsWithin, AreA
 pub record IsGoodSide (n l : ℕ) : Type 0 where
   pub is_side : IsSide (pos l)
   pub enough : n ≤ l
-  pub most : l ≤ 2 ^ 18
+  pub most : l ≤ largest_side
   pub least : (k : ℕ) → 4 ≤ k → n ≤ 2 ^ k → l ≤ 2 ^ k
 
-pub good_side : (n : ℕ) → n ≤ 2 ^ 18 → IsGoodSide n (power_from 14 4 n)
+pub good_side : (n : ℕ) → n ≤ largest_side → IsGoodSide n (power_from 14 4 n)
 good_side n few =
     let found = least_power 14 4 n few in
     let is : power_from 14 4 n ≡ 2 ^ found.0 = power_from_is 14 4 n found.0 found.1 in
@@ -82,23 +82,23 @@ triangles_in_box raw l margin inside k d lt =
     record { a_in = in_box margin l _ t.a_inside; b_in = in_box margin l _ t.b_inside; c_in = in_box margin l _ t.c_inside }
 
 -- ---- the shift
-few_before : (m : ℤ) (b : ℕ) → IsWithin largest_coordinate m → b ≤ 2 ^ 18 → IsWithin (2 * 10 ^ 9) (m -ℤ pos b)
+few_before : (m : ℤ) (b : ℕ) → IsWithin largest_coordinate m → b ≤ largest_side → IsWithin (2 * 10 ^ 9) (m -ℤ pos b)
 few_before m b h few = record { within = omega (arith, ints, h.within) }
 
-start_few : (axis : ℕ) (vs : List (List ℤ)) (l : ℕ) → l ≤ 2 ^ 18 → AreAlong axis vs → IsWithin (2 * 10 ^ 9) (start_along axis vs l)
+start_few : (axis : ℕ) (vs : List (List ℤ)) (l : ℕ) → l ≤ largest_side → AreAlong axis vs → IsWithin (2 * 10 ^ 9) (start_along axis vs l)
 start_few axis [] l few h = record { within = omega arith }
 start_few axis (v ∷ vs) l few h = few_before (least axis (v ∷ vs)) _ (least-IsWithin axis (v ∷ vs) h) (omega arith)
 
-shift_few : (vs : List (List ℤ)) (l : ℕ) → l ≤ 2 ^ 18 → All IsVertex vs → All (IsWithin (2 * 10 ^ 9)) (start vs l)
+shift_few : (vs : List (List ℤ)) (l : ℕ) → l ≤ largest_side → All IsVertex vs → All (IsWithin (2 * 10 ^ 9)) (start vs l)
 shift_few vs l few h = All-from_recursion (IsWithin (2 * 10 ^ 9)) (start vs l) (start_few 0 vs l few (along_x vs h), (start_few 1 vs l few (along_y vs h), (start_few 2 vs l few (along_z vs h), tt)))
 
 -- ---- the whole soup
-pub in_its_box : (raw : Raw) (l e : ℕ) → All IsVertex raw.vertices → All (IsFaceBelow (length raw.vertices)) raw.faces → room raw e ≤ l → l ≤ 2 ^ 18 → IsInItsBox e l (placed_in l raw)
+pub in_its_box : (raw : Raw) (l e : ℕ) → All IsVertex raw.vertices → All (IsFaceBelow (length raw.vertices)) raw.faces → room raw e ≤ l → l ≤ largest_side → IsInItsBox e l (placed_in l raw)
 in_its_box raw l e vertices faces fits few =
     let inside = triangles_inside raw l (e + 2) (omega arith) faces in
     record { in_box = triangles_in_box raw l (e + 2) inside; inside = inside; shift_few = shift_few raw.vertices l few vertices }
 
-pub least_side : (raw : Raw) (e cells : ℕ) → max (room raw e) (4 * cells) ≤ 2 ^ 18 → IsLeastSide raw e cells (pos (side raw e cells))
+pub least_side : (raw : Raw) (e cells : ℕ) → max (room raw e) (4 * cells) ≤ largest_side → IsLeastSide raw e cells (pos (side raw e cells))
 least_side raw e cells few =
     let good = good_side (max (room raw e) (4 * cells)) few in
     record {
@@ -111,14 +111,14 @@ least_side raw e cells few =
 -- what the code knows of the side
 pub record IsSideOf (raw : Raw) (e cells l : ℕ) : Type 0 where
   pub is : l ≡ side raw e cells
-  pub needed : max (room raw e) (4 * cells) ≤ 2 ^ 18
+  pub needed : max (room raw e) (4 * cells) ≤ largest_side
   pub has_room : room raw e ≤ l
-  pub most : l ≤ 2 ^ 18
+  pub most : l ≤ largest_side
 
-pub side_is : (raw : Raw) (e cells wide needed l : ℕ) → IsCells cells → wide ≡ extent raw → needed ≡ max (wide + 2 * e + 4) (4 * cells) → l ≡ power_from 14 4 needed → wide + 2 * e + 4 ≤ 2 ^ 18 → IsSideOf raw e cells l
+pub side_is : (raw : Raw) (e cells wide needed l : ℕ) → IsCells cells → wide ≡ extent raw → needed ≡ max (wide + 2 * e + 4) (4 * cells) → l ≡ power_from 14 4 needed → wide + 2 * e + 4 ≤ largest_side → IsSideOf raw e cells l
 side_is raw e cells wide needed l h wide_is needed_is l_is few =
     let most : 2 ^ h.power ≤ 2 ^ 5 = pow-le-pow_right (lit≤ tt) h.power_most in
     let is : l ≡ side raw e cells = l_is ∙ ap (power_from 14 4) (needed_is ∙ ap (λ n. max (n + 2 * e + 4) (4 * cells)) wide_is) in
-    let all : max (room raw e) (4 * cells) ≤ 2 ^ 18 = omega (arith, h.is) in
+    let all : max (room raw e) (4 * cells) ≤ largest_side = omega (arith, h.is) in
     let good = good_side (max (room raw e) (4 * cells)) all in
     record { is = is; needed = all; has_room = omega (arith, is, good.enough); most = omega (arith, is, good.most) }

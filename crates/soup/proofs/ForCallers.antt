@@ -5,7 +5,7 @@ use Rattle.std.proofs.lemmas.Int.{ints, fits_signed_from_abs}
 use Rattle.grid.specs.declared.shapes.Point.{Point}
 use Rattle.grid.specs.declared.shapes.Tri.{Tri}
 use Rattle.grid.specs.Boxes.{corner_of, IsUpTo, IsInBox, IsTriInBox}
-use Rattle.grid.specs.Limits.{IsSide}
+use Rattle.grid.specs.Limits.{IsSide, largest_side}
 pub use Rattle.soup.proofs.Ranges.{AreAlong, along_x, along_y, along_z, least-IsWithin}
 pub use Rattle.soup.proofs.Boxed.{in_its_box, least_side, side_is}
 pub use Rattle.soup.proofs.Places.{row_all}
@@ -26,14 +26,14 @@ IsTriInBox-wider l m t le h = record {
 }
 
 -- ---- the side of a box is one of the grid, and fits its type
-side-most : (side : ℤ) → IsSide side → nat_abs side ≤ 2 ^ 18
-side-most side s = subst (λ z. nat_abs z ≤ 2 ^ 18) (sym s.is) (pow-le-pow_right (lit≤ tt) s.power_most)
+side-most : (side : ℤ) → IsSide side → nat_abs side ≤ largest_side
+side-most side s = subst (λ z. nat_abs z ≤ largest_side) (sym s.is) (pow-le-pow_right (lit≤ tt) s.power_most)
 
-pub in-grid : (side : ℤ) (points : List Point) → IsSide side → All (IsInBox (nat_abs side)) points → All (IsInBox (2 ^ 18)) points
-in-grid side points s all = λ k d lt. IsInBox-wider (nat_abs side) (2 ^ 18) _ (side-most side s) (all k d lt)
+pub in-grid : (side : ℤ) (points : List Point) → IsSide side → All (IsInBox (nat_abs side)) points → All (IsInBox largest_side) points
+in-grid side points s all = λ k d lt. IsInBox-wider (nat_abs side) largest_side _ (side-most side s) (all k d lt)
 
 pub side-SFits : (side : ℤ) → IsSide side → SFits w32 side
 side-SFits side s =
-    let most : 2 ^ s.power ≤ 2 ^ 18 = pow-le-pow_right (lit≤ tt) s.power_most in
+    let most : 2 ^ s.power ≤ largest_side = pow-le-pow_right (lit≤ tt) s.power_most in
     let below : 2 ^ s.power < 2 ^ 31 = omega (arith, most) in
     fits_signed_from_abs w32 side (subst (λ z. unsigned_abs z < 2 ^ 31) (sym s.is) below)

@@ -3,6 +3,7 @@ use Rattle.std.proofs.Common.{◌≡◌, ℕ, ◌+◌, ◌*◌, ◌/◌, ◌^◌
 use Rattle.std.proofs.Math.Nat.{pow-le-pow_right, pow-suc}
 use Rattle.std.proofs.lemmas.Bool.{cases_lt, le-leb, lt-leb}
 use Rattle.std.proofs.lemmas.Nat.{pow_below}
+use Rattle.grid.specs.Limits.{largest_side}
 use Rattle.soup.specs.Placement.{power_from}
 
 -- the least exponent from k to k + more whose power is at least n
@@ -50,10 +51,10 @@ least_of_powers more k n j i h low enough = elim (cases_lt i j) [
 ]
 
 -- what the next power of two of the greater of n and 16 is
-pub next_power : (n r j : ℕ) → r ≡ 2 ^ j → max n 16 ≤ r → r / 2 < max 1 (max n 16) → n ≤ 2 ^ 18 → IsLeastPower 14 4 n j
+pub next_power : (n r j : ℕ) → r ≡ 2 ^ j → max n 16 ≤ r → r / 2 < max 1 (max n 16) → n ≤ largest_side → IsLeastPower 14 4 n j
 next_power n r j is low_r high_r few = record {
   low = elim (cases_lt j 4) [ inl lt ↦ let less : 2 ^ j < 16 = pow_below j 4 lt in absurd (omega arith) | inr le ↦ le ];
-  high = elim (cases_lt 18 j) [ inl lt ↦ let twice : 2 * 2 ^ 18 ≤ 2 ^ j = double_power 18 j lt in absurd (omega arith) | inr le ↦ le ];
+  high = elim (cases_lt 18 j) [ inl lt ↦ let twice : 2 * largest_side ≤ 2 ^ j = double_power 18 j lt in absurd (omega arith) | inr le ↦ le ];
   enough = omega arith;
   none = λ i le lt.
       let twice : 2 * 2 ^ i ≤ 2 ^ j = double_power i j lt in

@@ -1,5 +1,6 @@
 -- The limits of an input soup.
 use Rattle.std.specs.Prelude.{ℕ, ◌<◌, ◌≤◌, ◌^◌, ℤ, pos, List, length, slice_index, slice_index_or, All}
+use Rattle.grid.specs.Limits.{most_input}
 use Rattle.int_algebra.specs.Within.{IsWithin}
 use Rattle.soup.specs.declared.raw.Raw.{Raw}
 
@@ -21,7 +22,7 @@ pub record IsFaceBelow (n : ℕ) (f : List ℕ) : Type 0 where
 
 -- at most 2 ^ 20 vertices and triangles, coordinates within the limit, and corners that are vertices
 pub record IsRaw (raw : Raw) : Type 0 where
-  pub vertices_few : length raw.vertices ≤ 2 ^ 20
-  pub faces_few : length raw.faces ≤ 2 ^ 20
+  pub vertices_few : length raw.vertices ≤ most_input
+  pub faces_few : length raw.faces ≤ most_input
   pub coordinates : All IsVertex raw.vertices
   pub corners : All (IsFaceBelow (length raw.vertices)) raw.faces

@@ -1,4 +1,5 @@
-ghost use Rattle.std.specs.Prelude.{◌≡◌, ◌≤◌, ◌<◌, ◌^◌, All};
+ghost use Rattle.grid.specs.Limits.{largest_side};
+ghost use Rattle.std.specs.Prelude.{◌≡◌, ◌≤◌, ◌<◌, All};
 ghost use Rattle.soup.specs.Limits.{IsVertex};
 ghost use Rattle.soup.specs.Ranges.{IsRangeOf, IsMeasureOf};
 ghost use Rattle.soup.specs.Placement.{extent, spread, start_along, start};
@@ -32,7 +33,7 @@ pub fn measured(raw: &Raw) -> Measure
 fn start_along(vertices: &[[i64; 3]], axis: usize, range: Range, side: u64) -> i64
     requires range { IsRangeOf axis vertices.now range }
     requires fits { spread axis vertices.now ≤ side }
-    requires side { side ≤ 2 ^ 18 }
+    requires side { side ≤ largest_side }
     ensures { result ≡ start_along axis vertices.now side }
 {
     if vertices.is_empty() {
@@ -46,7 +47,7 @@ fn start_along(vertices: &[[i64; 3]], axis: usize, range: Range, side: u64) -> i
 pub fn start_of(raw: &Raw, measure: &Measure, side: u64) -> [i64; 3]
     requires measure { IsMeasureOf raw.now measure.now }
     requires fits { extent raw.now ≤ side }
-    requires side { side ≤ 2 ^ 18 }
+    requires side { side ≤ largest_side }
     ensures { result ≡ start raw.now.vertices side }
 {
     let vertices = raw.vertices.as_slice();

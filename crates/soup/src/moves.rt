@@ -1,4 +1,5 @@
-ghost use Rattle.std.specs.Prelude.{◌≡◌, ◌<◌, ◌^◌, length, map, ◌-ℤ◌, All, IfOk};
+ghost use Rattle.grid.specs.Limits.{largest_side};
+ghost use Rattle.std.specs.Prelude.{◌≡◌, ◌<◌, length, map, ◌-ℤ◌, All, IfOk};
 ghost use Rattle.soup.specs.Limits.{IsFaceBelow};
 ghost use Rattle.soup.specs.Placement.{along, placed_point, placed_triangle, IsInside, IsPointInside};
 
@@ -10,7 +11,7 @@ use std::alloc::{AllocError, Global};
 /// A coordinate of a vertex in the grid.
 fn placed_along(v: &[i64; 3], shift: &[i64; 3], axis: usize) -> i32
     requires axis { axis < 3 }
-    requires inside { IsInside 0 (2 ^ 18) (along axis v.now -ℤ along axis shift.now) }
+    requires inside { IsInside 0 largest_side (along axis v.now -ℤ along axis shift.now) }
     ensures { result ≡ along axis v.now -ℤ along axis shift.now }
 {
     (along(v, axis) - along(shift, axis)) as i32
@@ -18,7 +19,7 @@ fn placed_along(v: &[i64; 3], shift: &[i64; 3], axis: usize) -> i32
 
 /// A vertex as a point of the grid.
 fn placed_point(v: &[i64; 3], shift: &[i64; 3]) -> Point
-    requires { IsPointInside 0 (2 ^ 18) (placed_point shift.now v.now) }
+    requires { IsPointInside 0 largest_side (placed_point shift.now v.now) }
     ensures { result ≡ placed_point shift.now v.now }
 {
     Point {
@@ -31,7 +32,7 @@ fn placed_point(v: &[i64; 3], shift: &[i64; 3]) -> Point
 /// A triangle by its corners as points of the grid.
 fn placed_triangle(vertices: &[[i64; 3]], shift: &[i64; 3], face: &[u32; 3]) -> Tri
     requires corners { IsFaceBelow (length vertices.now) face.now }
-    requires inside { All (λ v. IsPointInside 0 (2 ^ 18) (placed_point shift.now v)) vertices.now }
+    requires inside { All (λ v. IsPointInside 0 largest_side (placed_point shift.now v)) vertices.now }
     ensures { result ≡ placed_triangle shift.now vertices.now face.now }
 {
     let [a, b, c] = *face;
@@ -50,7 +51,7 @@ pub fn placed_triangles(
     shift: &[i64; 3],
 ) -> Result<Items<Tri>, AllocError>
     requires corners { All (IsFaceBelow (length vertices.now)) faces.now }
-    requires inside { All (λ v. IsPointInside 0 (2 ^ 18) (placed_point shift.now v)) vertices.now }
+    requires inside { All (λ v. IsPointInside 0 largest_side (placed_point shift.now v)) vertices.now }
     ensures { IfOk result (λ triangles. triangles ≡ map (placed_triangle shift.now vertices.now) faces.now) }
 {
     let mut triangles = Vec::with_capacity(alloc, faces.len())?;

@@ -1,5 +1,5 @@
-ghost use Rattle.std.specs.Prelude.{◌≡◌, ◌↔◌, ◌≤◌, ◌<◌, ◌^◌, length, All, IfOk, IsErrOf, ℕ};
-ghost use Rattle.grid.specs.Limits.{IsCells};
+ghost use Rattle.std.specs.Prelude.{◌≡◌, ◌↔◌, ◌≤◌, ◌<◌, length, All, IfOk, IsErrOf, ℕ};
+ghost use Rattle.grid.specs.Limits.{IsCells, largest_side, most_epsilon};
 ghost use Rattle.soup.specs.Limits.{IsVertex, IsFaceBelow};
 ghost use Rattle.soup.specs.Ranges.{IsMeasureOf};
 ghost use Rattle.soup.specs.Placement.{extent, room, side, placed_in, placed, IsLeastSide, IsInItsBox};
@@ -7,7 +7,8 @@ ghost use Rattle.soup.specs.Placement.{extent, room, side, placed_in, placed, Is
 use crate::measure::{Measure, measured, start_of};
 use crate::moves::placed_triangles;
 use crate::raw::{Raw, Soup};
-use crate::sides::{LARGEST_SIDE, side_for};
+use crate::sides::side_for;
+use grid::LARGEST_SIDE;
 use std::alloc::{AllocError, Global};
 use thiserror::Error;
 
@@ -36,7 +37,7 @@ fn placed_in(alloc: Global, raw: &Raw, measure: &Measure, side: u64) -> Result<S
     requires corners { All (IsFaceBelow (length raw.now.vertices)) raw.now.faces }
     requires measure { IsMeasureOf raw.now measure.now }
     requires fits { extent raw.now ≤ side }
-    requires side { side ≤ 2 ^ 18 }
+    requires side { side ≤ largest_side }
     ensures { IfOk result (λ soup. soup ≡ placed_in side raw.now) }
 {
     let shift = start_of(raw, measure, side);
@@ -56,16 +57,16 @@ pub fn place(alloc: Global, raw: &Raw, e: u32, cells: u32) -> Result<Soup, Place
     requires coordinates { All IsVertex raw.now.vertices }
     requires corners { All (IsFaceBelow (length raw.now.vertices)) raw.now.faces }
     requires epsilon_least { 1 ≤ e }
-    requires epsilon_most { e ≤ 4095 }
+    requires epsilon_most { e ≤ most_epsilon }
     requires cells { IsCells cells }
     ensures placed { IfOk result (λ soup. soup ≡ placed raw.now e cells) }
     ensures least { IfOk result (λ soup. IsLeastSide raw.now e cells soup.side) }
     ensures inside { IfOk result (λ soup. IsInItsBox e (side raw.now e cells) soup) }
-    ensures too_wide { (x : ℕ) → IsErrOf result (PlaceIssue.TooWide x) ↔ ((2 ^ 18 < room raw.now e) × (x ≡ extent raw.now)) }
+    ensures too_wide { (x : ℕ) → IsErrOf result (PlaceIssue.TooWide x) ↔ ((largest_side < room raw.now e) × (x ≡ extent raw.now)) }
 {
     let measure = measured(raw);
     let room = measure.extent + 2 * e as u64 + 4;
-    if room > LARGEST_SIDE {
+    if room > u64::from(LARGEST_SIDE) {
         return Err(PlaceIssue::TooWide(measure.extent));
     }
     let side = side_for(room.max(4 * cells as u64));

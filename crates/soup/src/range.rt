@@ -1,3 +1,4 @@
+ghost use Rattle.grid.specs.Limits.{largest_side};
 ghost use Rattle.std.specs.Prelude.{◌≡◌, ◌<◌, ◌≤◌, ◌-◌, ◌/◌, ◌^◌, max, pos, unsigned_abs, ◌-ℤ◌};
 ghost use Rattle.std.specs.Int.{int_min, int_max};
 ghost use Rattle.int_algebra.specs.Within.{IsWithin};
@@ -41,7 +42,7 @@ impl Range {
     /// Where a box of that side begins that has the range in its middle.
     pub fn start(self, side: u64) -> i64
         requires wide { unsigned_abs (self.greatest -ℤ self.least) ≤ side }
-        requires side_in { side ≤ 2 ^ 18 }
+        requires side_in { side ≤ largest_side }
         requires least_in { IsWithin (10 ^ 9) self.least }
         ensures { result ≡ self.least -ℤ pos ((side - unsigned_abs (self.greatest -ℤ self.least)) / 2) }
     {

@@ -1,6 +1,6 @@
 -- What holds of each job.
 use Rattle.std.specs.Prelude.{◌≡◌, ◌≢◌, ℕ, ◌≤◌, false, List, [], ◌∷◌, Option, All, IfSome}
-use Rattle.grid.specs.Limits.{IsCells}
+use Rattle.grid.specs.Limits.{IsCells, most_epsilon}
 use Rattle.tet_words.specs.declared.job.MeshJob.{MeshJob}
 use Rattle.tet_words.specs.declared.job.CheckJob.{CheckJob}
 use Rattle.tet_words.specs.declared.job.DemoJob.{DemoJob}
@@ -24,7 +24,7 @@ AreDigits digits = IfSome digits (λ d. d ≤ 5)
 
 pub record IsMeshJob (job : MeshJob) : Type 0 where
   pub epsilon_least : 1 ≤ job.epsilon
-  pub epsilon_most : job.epsilon ≤ 4095
+  pub epsilon_most : job.epsilon ≤ most_epsilon
   pub cells : IsCells job.cells
   pub budget : job.budget ≤ 1000000
   pub digits : AreDigits job.digits

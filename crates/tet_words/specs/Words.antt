@@ -1,5 +1,6 @@
 -- What the words of a command line mean: a job, or the first fault in them.
 use Rattle.std.specs.Prelude.{ℕ, List, [], ◌∷◌, Option, Some, None, Result, Ok, Err}
+use Rattle.grid.specs.Limits.{most_epsilon}
 use Rattle.tet_words.specs.declared.commands.Command.{Command}
 use Rattle.tet_words.specs.declared.commands.Command.TheVariants as commands
 use Rattle.tet_words.specs.declared.fault.WordFault.{WordFault}
@@ -20,7 +21,7 @@ kept_names None = []
 -- three names, and options
 abbrev pub mesh_job : List (List ℕ) → Given → Result Job WordFault
 mesh_job (input ∷ mesh ∷ report ∷ []) given = do
-  epsilon ← given_number 2 1 4095 faults.Epsilon given.epsilon
+  epsilon ← given_number 2 1 most_epsilon faults.Epsilon given.epsilon
   cells ← given_cells given.cells
   budget ← given_number 100000 0 1000000 faults.Budget given.budget
   digits ← given_digits given.digits

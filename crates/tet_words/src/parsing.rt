@@ -12,6 +12,7 @@ use crate::job::{CheckJob, DemoJob, Job, MeshJob};
 use crate::names::check_names;
 use crate::numbers::{given_cells, given_digits, given_number, number_in};
 use crate::sorting::{Sorted, Values, sort};
+use grid::MOST_EPSILON;
 use items::Text;
 use std::alloc::{AllocError, Global};
 
@@ -56,7 +57,7 @@ fn mesh_of(
     ensures answers { Answers (λ j. j) (mesh_job (input.now ∷ mesh.now ∷ report.now ∷ []) (values_view values.now)) result }
     ensures facts { IfOk result IsJob }
 {
-    let epsilon = given_number(values.epsilon, 2, 1, 4095, WordFault::Epsilon)?;
+    let epsilon = given_number(values.epsilon, 2, 1, MOST_EPSILON, WordFault::Epsilon)?;
     let cells = given_cells(values.cells)?;
     let budget = given_number(values.budget, 100_000, 0, 1_000_000, WordFault::Budget)?;
     let digits = given_digits(values.digits)?;

@@ -7,6 +7,7 @@ use Rattle.int_algebra.specs.Within.{IsWithin}
 use Rattle.int_algebra.proofs.Bounds.{within_natural, kept-IsWithin}
 use Rattle.grid.specs.declared.shapes.Point.{Point}
 use Rattle.grid.specs.Boxes.{IsInBox, IsUpTo}
+use Rattle.grid.specs.Limits.{largest_side, most_epsilon}
 
 pub up_to-IsWithin : {n : ℕ} (z : ℤ) → IsUpTo n z → IsWithin n z
 up_to-IsWithin {n} z h = within_natural n z h.low h.high
@@ -26,9 +27,9 @@ box_at_most k le =
     let h : 18 + k ≤ 24 = omega (arith, le) in
     pow-le-pow_right (lit≤ tt) h
 
-pub far-IsWithin : (k e : ℕ) → k ≤ 6 → e ≤ 4095 → IsWithin (2 ^ 18) (pos (e * 2 ^ k))
+pub far-IsWithin : (k e : ℕ) → k ≤ 6 → e ≤ most_epsilon → IsWithin largest_side (pos (e * 2 ^ k))
 far-IsWithin k e le l =
-    let far : e * 2 ^ k ≤ 4095 * 2 ^ 6 = mul-le-mul l (power_at_most k le) in
+    let far : e * 2 ^ k ≤ most_epsilon * 2 ^ 6 = mul-le-mul l (power_at_most k le) in
     record { within = le_trans far (lit≤ tt) }
 
 -- for `using`: the square of a reach as the code keeps it

@@ -11,6 +11,7 @@ use Rattle.vectors.specs.Bounded.{gap_of}
 use Rattle.grid.specs.Near.{IsNearCorners}
 use Rattle.tri_distance.specs.Parts.{NearTriangle, IsNormal}
 use Rattle.grid.proofs.VectorExpressions.{scaled_, at_}
+use Rattle.grid.specs.Limits.{most_epsilon}
 use Rattle.tri_distance.proofs.Segments.{square-Positive}
 use Rattle.tri_distance.proofs.Triangles.{near_triangle, near_corners}
 use Rattle.tri_distance.proofs.Limits.{power_at_most}
@@ -37,10 +38,10 @@ normal_is p a b c k x y z m e f g h = record {
   same = (λ i. cross (minus (f i) (e i)) (minus (g i) (e i))) ∙ gap_of-normal p a b c (pos (2 ^ k)) ∙ (λ i. scaled (pos (2 ^ k) *ℤ pos (2 ^ k)) (sym h i));
 }
 
-pub reach-IsWithin : (k e : ℕ) → k ≤ 6 → e ≤ 4095 → IsWithin (2 ^ 36) (pos (e * 2 ^ k * (e * 2 ^ k)))
+pub reach-IsWithin : (k e : ℕ) → k ≤ 6 → e ≤ most_epsilon → IsWithin (2 ^ 36) (pos (e * 2 ^ k * (e * 2 ^ k)))
 reach-IsWithin k e le l =
-    let far : e * 2 ^ k ≤ 4095 * 2 ^ 6 = mul-le-mul l (power_at_most k le) in
-    let square : e * 2 ^ k * (e * 2 ^ k) ≤ 4095 * 2 ^ 6 * (4095 * 2 ^ 6) = mul-le-mul far far in
+    let far : e * 2 ^ k ≤ most_epsilon * 2 ^ 6 = mul-le-mul l (power_at_most k le) in
+    let square : e * 2 ^ k * (e * 2 ^ k) ≤ most_epsilon * 2 ^ 6 * (most_epsilon * 2 ^ 6) = mul-le-mul far far in
     record { within = le_trans square (lit≤ tt) }
 
 pub corners_is : (p : Point) (k e : ℕ) (a b c : Point) (x y z : Vector) (r : ℤ) (l : Bool)

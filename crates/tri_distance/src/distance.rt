@@ -1,3 +1,4 @@
+ghost use Rattle.grid.specs.Limits.{largest_side, most_epsilon};
 ghost use Rattle.std.specs.Prelude.{◌≡◌, ◌↔◌, ◌≤◌, ◌+◌, ◌*◌, ◌^◌, IsTrue, pos};
 ghost use Rattle.int_algebra.specs.Within.{IsWithin};
 ghost use Rattle.grid.specs.Boxes.{IsInBox, AreInBox, IsTriInBox};
@@ -10,17 +11,17 @@ use grid::{Point, Tri};
 
 /// The distance e at the scale of k.
 fn far_of(e: u32, k: u32) -> i64
-    requires e_in { e ≤ 4095 }
+    requires e_in { e ≤ most_epsilon }
     requires k_in { k ≤ 6 }
     ensures value { result ≡ pos (e * 2 ^ k) }
-    ensures within { IsWithin (2 ^ 18) result }
+    ensures within { IsWithin largest_side result }
 {
     e as i64 * scale_of(k)
 }
 
 /// The square of the distance e at the scale of k.
 fn reach_of(e: u32, k: u32) -> i128
-    requires e_in { e ≤ 4095 }
+    requires e_in { e ≤ most_epsilon }
     requires k_in { k ≤ 6 }
     ensures value { result ≡ pos (e * 2 ^ k * (e * 2 ^ k)) }
     ensures within { IsWithin (2 ^ 36) result }
@@ -33,8 +34,8 @@ fn reach_of(e: u32, k: u32) -> i128
 fn near_corners(p: Point, k: u32, a: Point, b: Point, c: Point, e: u32) -> bool
     requires k_in { k ≤ 6 }
     requires p_in { IsInBox (2 ^ (18 + k)) p }
-    requires corners_in { AreInBox (2 ^ 18) a b c }
-    requires e_in { e ≤ 4095 }
+    requires corners_in { AreInBox largest_side a b c }
+    requires e_in { e ≤ most_epsilon }
     ensures { IsTrue result ↔ IsNearCorners p k e a b c }
 {
     let x = gap(p, k, a);
@@ -52,8 +53,8 @@ fn near_corners(p: Point, k: u32, a: Point, b: Point, c: Point, e: u32) -> bool
 pub fn near(p: Point, k: u32, tri: &Tri, e: u32) -> bool
     requires k_in { k ≤ 6 }
     requires p_in { IsInBox (2 ^ (18 + k)) p }
-    requires tri_in { IsTriInBox (2 ^ 18) tri.now }
-    requires e_in { e ≤ 4095 }
+    requires tri_in { IsTriInBox largest_side tri.now }
+    requires e_in { e ≤ most_epsilon }
     ensures { IsTrue result ↔ Near p k tri.now e }
 {
     let [a, b, c] = tri.0;

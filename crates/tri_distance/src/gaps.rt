@@ -1,4 +1,5 @@
 ghost use Rattle.grid.specs.Boxes.{AreInBox, IsInBox};
+ghost use Rattle.grid.specs.Limits.{largest_side};
 ghost use Rattle.grid.specs.Vectors.{cross, difference};
 ghost use Rattle.std.specs.Prelude.{pos, ◌+◌, ◌^◌, ◌≡◌, ◌≤◌};
 ghost use Rattle.vectors.specs.Bounded.{IsVectorWithin, gap_of, vector_of};
@@ -9,7 +10,7 @@ use vectors::{Vector, cross, difference, scaled_difference};
 /// The normal of the triangle a, b, c.
 #[tactic(auto, using(vectors::proofs::VectorLemmas::wider))]
 pub fn normal(a: Point, b: Point, c: Point) -> Vector
-    requires corners_in { AreInBox (2 ^ 18) a b c }
+    requires corners_in { AreInBox largest_side a b c }
     ensures value { vector_of result ≡ cross (difference b a) (difference c a) }
     ensures within { IsVectorWithin (2 ^ 37) (vector_of result) }
 {
@@ -27,7 +28,7 @@ pub fn scale_of(k: u32) -> i64
 pub fn gap(p: Point, k: u32, a: Point) -> Vector
     requires k_in { k ≤ 6 }
     requires p_in { IsInBox (2 ^ (18 + k)) p }
-    requires a_in { IsInBox (2 ^ 18) a }
+    requires a_in { IsInBox largest_side a }
     ensures value { vector_of result ≡ gap_of p (pos (2 ^ k)) a }
     ensures within { IsVectorWithin (2 ^ 24) (vector_of result) }
 {

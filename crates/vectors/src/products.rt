@@ -1,3 +1,4 @@
+ghost use Rattle.grid.specs.Limits.{largest_side};
 ghost use Rattle.grid.specs.Vectors;
 ghost use Rattle.int_algebra.specs.Within.{IsWithin};
 ghost use Rattle.std.specs.Prelude.{ℕ, ◌*◌, ◌+◌, ◌^◌, ◌≡◌, ◌≤◌};
@@ -13,7 +14,7 @@ pub fn cross(m: Vector, n: Vector) -> Vector
     requires n_in { IsVectorWithin (2 ^ 24) (vector_of n) }
     ensures value { vector_of result ≡ Vectors.cross (vector_of m) (vector_of n) }
     ensures within { IsVectorWithin (2 ^ 49) (vector_of result) }
-    ensures short { IsVectorWithin (2 ^ 18) (vector_of m) → IsVectorWithin (2 ^ 18) (vector_of n)
+    ensures short { IsVectorWithin largest_side (vector_of m) → IsVectorWithin largest_side (vector_of n)
         → IsVectorWithin (2 ^ 37) (vector_of result) }
 {
     Vector {

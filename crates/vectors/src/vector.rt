@@ -1,4 +1,5 @@
 ghost use Rattle.grid.specs.Boxes.{IsInBox, IsUpTo};
+ghost use Rattle.grid.specs.Limits.{largest_side};
 ghost use Rattle.grid.specs.Vectors;
 ghost use Rattle.std.specs.Prelude.{◌^◌, ◌≡◌};
 ghost use Rattle.vectors.specs.Bounded.{IsVectorWithin, gap_of, vector_of};
@@ -16,10 +17,10 @@ pub struct Vector {
 
 /// The vector a - b, from b to a, in grid steps.
 pub fn difference(a: Point, b: Point) -> Vector
-    requires a_in { IsInBox (2 ^ 18) a }
-    requires b_in { IsInBox (2 ^ 18) b }
+    requires a_in { IsInBox largest_side a }
+    requires b_in { IsInBox largest_side b }
     ensures value { vector_of result ≡ Vectors.difference a b }
-    ensures within { IsVectorWithin (2 ^ 18) (vector_of result) }
+    ensures within { IsVectorWithin largest_side (vector_of result) }
 {
     Vector {
         x: a.x as i64 - b.x as i64,
@@ -32,7 +33,7 @@ pub fn difference(a: Point, b: Point) -> Vector
 pub fn scaled_difference(p: Point, t: i64, a: Point) -> Vector
     requires p_in { IsInBox (2 ^ 24) p }
     requires t_in { IsUpTo (2 ^ 6) t }
-    requires a_in { IsInBox (2 ^ 18) a }
+    requires a_in { IsInBox largest_side a }
     ensures value { vector_of result ≡ gap_of p t a }
     ensures within { IsVectorWithin (2 ^ 24) (vector_of result) }
 {

@@ -1,3 +1,4 @@
+ghost use Rattle.grid.specs.Limits.{largest_side};
 ghost use Rattle.std.specs.Prelude.{◌≡◌, ◌^◌, ◌≤◌, ◌<◌, ◌-◌, All, IfOk, length, pos};
 ghost use Rattle.grid.specs.Boxes.{IsUpTo, IsInBox, IsTriInBox};
 
@@ -51,22 +52,22 @@ fn none_of_no_triangles(rt: HostRuntime) -> Result<(), Fail> {
 // 1024 rows of 1024 triangles, 256 apart.
 fn coordinate(n: u32) -> i32
     requires { n < 1024 }
-    ensures { IsUpTo (2 ^ 18 - 8) result }
+    ensures { IsUpTo (largest_side - 8) result }
 {
     (256 * n) as i32
 }
 
 fn flat_point(x: i32, y: i32) -> Point
-    requires x_in { IsUpTo (2 ^ 18) x }
-    requires y_in { IsUpTo (2 ^ 18) y }
-    ensures { IsInBox (2 ^ 18) result }
+    requires x_in { IsUpTo largest_side x }
+    requires y_in { IsUpTo largest_side y }
+    ensures { IsInBox largest_side result }
 {
     Point { x, y, z: 0 }
 }
 
 fn small_triangle(t: u32) -> Tri
     requires { t < 1048576 }
-    ensures { IsTriInBox (2 ^ 18) result }
+    ensures { IsTriInBox largest_side result }
 {
     let x = coordinate(t % 1024);
     let y = coordinate(t / 1024);
@@ -74,7 +75,7 @@ fn small_triangle(t: u32) -> Tri
 }
 
 fn small_triangles(alloc: Global) -> Result<Vec<Tri>, Memory>
-    ensures inside { IfOk result (λ v. All (IsTriInBox (2 ^ 18)) v.items) }
+    ensures inside { IfOk result (λ v. All (IsTriInBox largest_side) v.items) }
     ensures few { IfOk result (λ v. length v.items ≤ 2 ^ 24) }
 {
     let mut triangles = Vec::new(alloc);

@@ -1,5 +1,6 @@
 // The step that all changes of a mesh share, in an open transaction.
-ghost use Rattle.grid.specs.Meshes.{IsTriple, most_made};
+ghost use Rattle.grid.specs.Limits.{most_made};
+ghost use Rattle.grid.specs.Meshes.{IsTriple};
 ghost use Rattle.grid.specs.Simplices.{IsTet};
 ghost use Rattle.grid.specs.Views.{corners_of, triples_of};
 ghost use Rattle.mesh_store.specs.Changes.{IsSameTransaction, tets_made, with_parts};
@@ -8,9 +9,7 @@ ghost use Rattle.std.specs.Prelude.{All, Err, IsSome, OnOk, length, ◌+◌, ◌
 
 use super::Store;
 use crate::issue::StoreIssue;
-use grid::{Face, Memory, Tet};
-
-const MOST_MADE: u32 = 1 << 22;
+use grid::{Face, MOST_MADE, Memory, Tet};
 
 impl Store {
     /// Kills slots, makes live slots after the last, takes tracked faces out and tracks others.

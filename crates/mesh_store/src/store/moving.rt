@@ -1,6 +1,7 @@
 // A point in place of another, in an open transaction.
 ghost use Rattle.grid.specs.Boxes.{IsInBox};
-ghost use Rattle.grid.specs.Meshes.{IsWithinLimits, most_made};
+ghost use Rattle.grid.specs.Limits.{most_made};
+ghost use Rattle.grid.specs.Meshes.{IsWithinLimits};
 ghost use Rattle.mesh_store.specs.Changes.{IsGrown, IsSameTransaction, point_made};
 ghost use Rattle.mesh_store.specs.Exchanges.{IsMoved, moved_tets};
 ghost use Rattle.mesh_store.specs.Parts.{live_tets, mesh_in};

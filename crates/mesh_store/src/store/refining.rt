@@ -1,20 +1,19 @@
 // Refining, in an open transaction.
 ghost use Rattle.grid.specs.Boxes.{IsInBox};
-ghost use Rattle.grid.specs.Meshes.{IsTriple, IsWithinLimits, most_points};
+ghost use Rattle.grid.specs.Limits.{most_points, most_made};
+ghost use Rattle.grid.specs.Meshes.{IsTriple, IsWithinLimits};
 ghost use Rattle.grid.specs.Simplices.{IsTet};
 ghost use Rattle.mesh_store.specs.Changes.{IsRefined, IsSameTransaction, IsSplit, points_made, slots_split, with_parts};
 ghost use Rattle.mesh_store.specs.Parts.{mesh_in};
 ghost use Rattle.mesh_types.specs.CutLists.{AreCuts};
 ghost use Rattle.mesh_types.specs.Refines.{refine};
-ghost use Rattle.grid.specs.Meshes.{most_made};
 ghost use Rattle.std.specs.Prelude.{All, Err, IsSome, OnOk, length, nat_abs, ◌+◌, ◌<◌, ◌≡◌};
 
 use super::Store;
 use crate::issue::StoreIssue;
 use crate::{splitting, touching};
+use grid::MOST_POINTS;
 use mesh_types::Cut;
-
-pub(super) const MOST_POINTS: u32 = 1 << 20;
 
 impl Store {
     /// Refines the mesh.

@@ -1,6 +1,7 @@
 // The five changes that leave a mark.
 ghost use Rattle.grid.specs.Boxes.{IsInBox};
-ghost use Rattle.grid.specs.Meshes.{IsTriple, most_made, most_points};
+ghost use Rattle.grid.specs.Limits.{most_points, most_made};
+ghost use Rattle.grid.specs.Meshes.{IsTriple};
 ghost use Rattle.grid.specs.Simplices.{IsTet};
 ghost use Rattle.mesh_store.specs.Changes.{face_put, point_made, slot_killed, tet_made, with_parts};
 ghost use Rattle.std.specs.Prelude.{IsSome, OnErr, OnOk, Some, false, length, nat_abs, true, ◌<◌, ◌≡◌};

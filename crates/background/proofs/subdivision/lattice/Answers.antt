@@ -3,6 +3,7 @@ use Rattle.std.proofs.lemmas.List.{length-map}
 use native.Mathlib.Nat.{mul-le-mul}
 use Rattle.grid.specs.Boxes.{IsInBox}
 use Rattle.grid.specs.Meshes.{IsWellFormed, IsWithinLimits, Tiles}
+use Rattle.grid.specs.Limits.{largest_side}
 use Rattle.mesh_types.specs.Lattice.{lattice, lattice_points}
 use Rattle.mesh_types.specs.Views.{corners_of, triples_of}
 use Rattle.background.proofs.LimitLemmas.{cells_most, step_most}
@@ -11,7 +12,7 @@ use Rattle.background.proofs.Volume.{cubed}
 use Rattle.background.proofs.subdivision.lattice.Goals as goal
 
 pub points-requires-clause-step_in : goal.points-requires-clause-step_in
-points-requires-clause-step_in c = subst (λ z. nat_abs z / c.args.cells ≤ 262144) (sym (to_z-of_z c.ranges.side)) (step_most c.args.side c.args.cells c.requires.side_in)
+points-requires-clause-step_in c = subst (λ z. nat_abs z / c.args.cells ≤ largest_side) (sym (to_z-of_z c.ranges.side)) (step_most c.args.side c.args.cells c.requires.side_in)
 
 pub points-requires-clause-cells_in : goal.points-requires-clause-cells_in
 points-requires-clause-cells_in c = cells_most c.args.cells c.requires.cells_in

@@ -1,5 +1,6 @@
-use Rattle.std.proofs.Common.{◌^◌, ap, map, ◌∙◌, arith}
+use Rattle.std.proofs.Common.{ap, map, ◌∙◌, arith}
 use Rattle.std.specs.List.{flat_map}
+use Rattle.grid.specs.Limits.{largest_side}
 use Rattle.tet_slots.specs.Searches.{numbers_of as found_numbers}
 use Rattle.tet_slots.specs.Slots.{slot_at}
 use Rattle.cutting_rule.specs.Section.{section_in}
@@ -22,7 +23,7 @@ tet-tet-requires c =
 
 pub push_section-requires : goal.push_section-requires
 push_section-requires c =
-    points-in (2 ^ 18) c.args.slots.now.points c.corner_points-corners.result c.tet-tet.result.0 c.corner_points-corners.ensures c.requires.in_box c.tet-tet.ensures.corners.in_range
+    points-in largest_side c.args.slots.now.points c.corner_points-corners.result c.tet-tet.result.0 c.corner_points-corners.ensures c.requires.in_box c.tet-tet.ensures.corners.in_range
 
 pub loop-touched-preserved : goal.loop-touched-preserved
 loop-touched-preserved c =

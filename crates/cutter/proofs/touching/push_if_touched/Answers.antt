@@ -1,5 +1,6 @@
-use Rattle.std.proofs.Common.{◌≡◌, ◌∙◌, ◌^◌, ◌++◌, ◌∷◌, [], Bool, false, cond, sym, ap}
+use Rattle.std.proofs.Common.{◌≡◌, ◌∙◌, ◌++◌, ◌∷◌, [], Bool, false, cond, sym, ap}
 use Rattle.std.proofs.lemmas.List.{append-nil}
+use Rattle.grid.specs.Limits.{largest_side}
 use Rattle.mesh_types.specs.Phases.{points_of}
 use Rattle.tet_slots.specs.Slots.{slot_at}
 use Rattle.cutting_rule.proofs.Points.{points-in}
@@ -10,7 +11,7 @@ use Rattle.cutter.proofs.touching.push_if_touched.Goals as goal
 
 pub touch-requires : goal.touch-requires
 touch-requires c =
-    points-in (2 ^ 18) c.args.slots.now.points c.corner_points-corners.result c.tet.result.0 c.corner_points-corners.ensures c.requires.in_box c.tet.ensures.corners.in_range
+    points-in largest_side c.args.slots.now.points c.corner_points-corners.result c.tet.result.0 c.corner_points-corners.ensures c.requires.in_box c.tet.ensures.corners.in_range
 
 pub returns-in-None : goal.returns-in-None
 returns-in-None c =

@@ -1,5 +1,6 @@
-use Rattle.std.proofs.Common.{◌≡◌, ◌∙◌, ◌^◌, ◌++◌, false, sym, ap, get_or}
+use Rattle.std.proofs.Common.{◌≡◌, ◌∙◌, ◌++◌, false, sym, ap, get_or}
 use Rattle.std.proofs.lemmas.List.{append-nil}
+use Rattle.grid.specs.Limits.{largest_side}
 use Rattle.mesh_types.specs.Phases.{points_of}
 use Rattle.tet_slots.specs.Slots.{slot_at}
 use Rattle.cutting_rule.specs.Edges.{numbers_of}
@@ -12,7 +13,7 @@ use Rattle.cutter.proofs.wanted.push_wanted_at.Goals as goal
 
 pub push_wanted_of-requires-clause-corners_in : goal.push_wanted_of-requires-clause-corners_in
 push_wanted_of-requires-clause-corners_in c =
-    points-in (2 ^ 18) c.args.slots.now.points c.corner_points-corners.result c.tet-tet.result.0 c.corner_points-corners.ensures c.requires.in_box c.tet-tet.ensures.corners.in_range
+    points-in largest_side c.args.slots.now.points c.corner_points-corners.result c.tet-tet.result.0 c.corner_points-corners.ensures c.requires.in_box c.tet-tet.ensures.corners.in_range
 
 pub returns-then-not-touched-i : goal.returns-then-not-touched-i
 returns-then-not-touched-i c =

@@ -5,6 +5,7 @@ use Rattle.int_algebra.proofs.Laws.{linear}
 use Rattle.int_algebra.proofs.Bounds.{AreWithin, fits_within, within_natural, within_cast}
 use Rattle.int_algebra.proofs.Kept.{Code, variable, ◌⊕◌, ◌⊖◌, kept, kept-value}
 use Rattle.grid.specs.Boxes.{IsUpTo}
+use Rattle.grid.specs.Limits.{largest_side}
 use Rattle.cutting_rule.proofs.Spreads.{spread-is, max-least, max-right, min-greatest, min-right}
 use Rattle.cutting_rule.proofs.spread.spread.Goals as goal
 
@@ -14,41 +15,41 @@ coordinate = kept w64 (kept w32 (variable 0))
 cast-is : (m : ℕ) → m ≤ 2 ^ 60 → to_z w64 m ≡ pos m
 cast-is m h = omega (arith, ints, h)
 
-module _ (z : ℤ) (m : ℕ) (z_in : IsUpTo (2 ^ 18) z) (m_in : m ≤ 2 ^ 60) where
-  all_in : AreWithin (2 ^ 18 ∷ 2 ^ 60 ∷ []) (z ∷ to_z w64 m ∷ [])
-  all_in = (within_natural (2 ^ 18) z z_in.low z_in.high, (within_cast w64 (2 ^ 60) m m_in (omega (arith, m_in)), tt))
+module _ (z : ℤ) (m : ℕ) (z_in : IsUpTo largest_side z) (m_in : m ≤ 2 ^ 60) where
+  all_in : AreWithin (largest_side ∷ 2 ^ 60 ∷ []) (z ∷ to_z w64 m ∷ [])
+  all_in = (within_natural largest_side z z_in.low z_in.high, (within_cast w64 (2 ^ 60) m m_in (omega (arith, m_in)), tt))
 
   low-is : to_z w64 (of_z w64 (to_z w64 (of_z w64 (to_z w32 (of_z w32 z))) -ℤ to_z w64 m)) ≡ z -ℤ pos m
-  low-is = kept-value (2 ^ 18 ∷ 2 ^ 60 ∷ []) (z ∷ to_z w64 m ∷ []) all_in (kept w64 (coordinate ⊖ variable 1)) tt ∙ ap (λ q. z -ℤ q) (cast-is m m_in)
+  low-is = kept-value (largest_side ∷ 2 ^ 60 ∷ []) (z ∷ to_z w64 m ∷ []) all_in (kept w64 (coordinate ⊖ variable 1)) tt ∙ ap (λ q. z -ℤ q) (cast-is m m_in)
 
   high-is : to_z w64 (of_z w64 (to_z w64 (of_z w64 (to_z w32 (of_z w32 z))) +ℤ to_z w64 m)) ≡ z +ℤ pos m
-  high-is = kept-value (2 ^ 18 ∷ 2 ^ 60 ∷ []) (z ∷ to_z w64 m ∷ []) all_in (kept w64 (coordinate ⊕ variable 1)) tt ∙ ap (λ q. z +ℤ q) (cast-is m m_in)
+  high-is = kept-value (largest_side ∷ 2 ^ 60 ∷ []) (z ∷ to_z w64 m ∷ []) all_in (kept w64 (coordinate ⊕ variable 1)) tt ∙ ap (λ q. z +ℤ q) (cast-is m m_in)
 
-twice-kept : (x : ℤ) → pos 0 ≤ℤ x → x ≤ℤ pos (2 ^ 18) → to_z w32 (of_z w32 (to_z w64 (of_z w64 x))) ≡ x
-twice-kept x h k = kept-value (2 ^ 18 ∷ []) (x ∷ []) (within_natural (2 ^ 18) x h k, tt) (kept w32 (kept w64 (variable 0))) tt
+twice-kept : (x : ℤ) → pos 0 ≤ℤ x → x ≤ℤ pos largest_side → to_z w32 (of_z w32 (to_z w64 (of_z w64 x))) ≡ x
+twice-kept x h k = kept-value (largest_side ∷ []) (x ∷ []) (within_natural largest_side x h k, tt) (kept w32 (kept w64 (variable 0))) tt
 
-fits-twice : (x : ℤ) → pos 0 ≤ℤ x → x ≤ℤ pos (2 ^ 18) → SFits w32 (to_z w64 (of_z w64 x))
-fits-twice x h k = let fits : SFits w64 x = fits_within w64 (within_natural (2 ^ 18) x h k) (omega arith) in subst (SFits w32) (sym (to_z-of_z fits)) (fits_within w32 (within_natural (2 ^ 18) x h k) (omega arith))
+fits-twice : (x : ℤ) → pos 0 ≤ℤ x → x ≤ℤ pos largest_side → SFits w32 (to_z w64 (of_z w64 x))
+fits-twice x h k = let fits : SFits w64 x = fits_within w64 (within_natural largest_side x h k) (omega arith) in subst (SFits w32) (sym (to_z-of_z fits)) (fits_within w32 (within_natural largest_side x h k) (omega arith))
 
-low-end : (lo x : ℤ) (m : ℕ) → IsUpTo (2 ^ 18) lo → x ≡ int_max (lo -ℤ pos m) (pos 0) → (pos 0 ≤ℤ x) × (x ≤ℤ pos (2 ^ 18))
+low-end : (lo x : ℤ) (m : ℕ) → IsUpTo largest_side lo → x ≡ int_max (lo -ℤ pos m) (pos 0) → (pos 0 ≤ℤ x) × (x ≤ℤ pos largest_side)
 low-end lo x m h e =
     let low = h.low in
     let high = h.high in (
       subst (λ (z : ℤ). pos 0 ≤ℤ z) (sym e) (max-right (lo -ℤ pos m) (pos 0)),
-      subst (λ (z : ℤ). z ≤ℤ pos (2 ^ 18)) (sym e) (max-least (lo -ℤ pos m) (pos 0) (pos (2 ^ 18)) (omega (arith, linear, high)) (omega (arith, linear))),
+      subst (λ (z : ℤ). z ≤ℤ pos largest_side) (sym e) (max-least (lo -ℤ pos m) (pos 0) (pos largest_side) (omega (arith, linear, high)) (omega (arith, linear))),
     )
 
-high-end : (hi x : ℤ) (m : ℕ) → IsUpTo (2 ^ 18) hi → x ≡ int_min (hi +ℤ pos m) (pos (2 ^ 18)) → (pos 0 ≤ℤ x) × (x ≤ℤ pos (2 ^ 18))
+high-end : (hi x : ℤ) (m : ℕ) → IsUpTo largest_side hi → x ≡ int_min (hi +ℤ pos m) (pos largest_side) → (pos 0 ≤ℤ x) × (x ≤ℤ pos largest_side)
 high-end hi x m h e =
     let low = h.low in (
-      subst (λ (z : ℤ). pos 0 ≤ℤ z) (sym e) (min-greatest (hi +ℤ pos m) (pos (2 ^ 18)) (pos 0) (omega (arith, linear, low)) (omega (arith, linear))),
-      subst (λ (z : ℤ). z ≤ℤ pos (2 ^ 18)) (sym e) (min-right (hi +ℤ pos m) (pos (2 ^ 18))),
+      subst (λ (z : ℤ). pos 0 ≤ℤ z) (sym e) (min-greatest (hi +ℤ pos m) (pos largest_side) (pos 0) (omega (arith, linear, low)) (omega (arith, linear))),
+      subst (λ (z : ℤ). z ≤ℤ pos largest_side) (sym e) (min-right (hi +ℤ pos m) (pos largest_side)),
     )
 
 pub overflow_cast-result-2 : goal.overflow_cast-result-2
 overflow_cast-result-2 c =
     let m = c.margin_of-margin.result in
-    let y : c.min.result ≡ int_min (c.args.hi +ℤ pos m) (pos (2 ^ 18)) = c.min.ensures.value ∙ ap (λ z. int_min z (pos (2 ^ 18))) (high-is c.args.hi m c.requires.hi_in c.margin_of-margin.ensures.high) in
+    let y : c.min.result ≡ int_min (c.args.hi +ℤ pos m) (pos largest_side) = c.min.ensures.value ∙ ap (λ z. int_min z (pos largest_side)) (high-is c.args.hi m c.requires.hi_in c.margin_of-margin.ensures.high) in
     let ends = high-end c.args.hi c.min.result m c.requires.hi_in y in
     fits-twice c.min.result ends.0 ends.1
 
@@ -58,7 +59,7 @@ returns c =
     let hi = c.args.hi in
     let m = c.margin_of-margin.result in
     let x : c.max.result ≡ int_max (lo -ℤ pos m) (pos 0) = c.max.ensures.value ∙ ap (λ z. int_max z (pos 0)) (low-is lo m c.requires.lo_in c.margin_of-margin.ensures.high) in
-    let y : c.min.result ≡ int_min (hi +ℤ pos m) (pos (2 ^ 18)) = c.min.ensures.value ∙ ap (λ z. int_min z (pos (2 ^ 18))) (high-is hi m c.requires.hi_in c.margin_of-margin.ensures.high) in
+    let y : c.min.result ≡ int_min (hi +ℤ pos m) (pos largest_side) = c.min.ensures.value ∙ ap (λ z. int_min z (pos largest_side)) (high-is hi m c.requires.hi_in c.margin_of-margin.ensures.high) in
     let xs = low-end lo c.max.result m c.requires.lo_in x in
     let ys = high-end hi c.min.result m c.requires.hi_in y in
     let enough : ((hi -ℤ lo) *ℤ pos c.args.wide) ≤ℤ ((pos m -ℤ pos 2) *ℤ pos c.args.area) =

@@ -1,12 +1,13 @@
-use Rattle.std.proofs.Common.{rules, ◌≡◌, ◌^◌, ℤ, ap, ◌∙◌, arith, w32, SFits, to_z, of_z, to_z-of_z}
+use Rattle.std.proofs.Common.{rules, ◌≡◌, ℤ, ap, ◌∙◌, arith, w32, SFits, to_z, of_z, to_z-of_z}
 use Rattle.int_algebra.proofs.Bounds.{fits_within, within_natural}
 use Rattle.grid.specs.declared.shapes.Point.{Point}
 use Rattle.grid.specs.Boxes.{IsUpTo}
+use Rattle.grid.specs.Limits.{largest_side}
 use Rattle.cutting_rule.proofs.Spreads.{spread-at}
 use Rattle.cutting_rule.proofs.spread.spread_box.Goals as goal
 
-kept-is : (z : ℤ) → IsUpTo (2 ^ 18) z → to_z w32 (of_z w32 z) ≡ z
-kept-is z h = to_z-of_z (fits_within w32 (within_natural (2 ^ 18) z h.low h.high) (omega arith))
+kept-is : (z : ℤ) → IsUpTo largest_side z → to_z w32 (of_z w32 z) ≡ z
+kept-is z h = to_z-of_z (fits_within w32 (within_natural largest_side z h.low h.high) (omega arith))
 
 pub returns : goal.returns
 returns c =

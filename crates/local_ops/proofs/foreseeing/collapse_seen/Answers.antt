@@ -1,9 +1,10 @@
-use Rattle.std.proofs.Common.{◌≡◌, ◌∙◌, ◌<◌, ◌^◌, List, All, length, map, ap, sym, subst}
+use Rattle.std.proofs.Common.{◌≡◌, ◌∙◌, ◌<◌, List, All, length, map, ap, sym, subst}
 use Rattle.std.specs.List.{filter, list_all}
 use Rattle.grid.specs.declared.shapes.Point.{Point}
 use Rattle.grid.specs.Boxes.{IsInBox}
 use Rattle.grid.specs.Determinants.{origin, point_at}
 use Rattle.grid.specs.Simplices.{has}
+use Rattle.grid.specs.Limits.{largest_side}
 use Rattle.mesh_types.specs.declared.tries.Try.TheVariants.{Collapse, Shift}
 use Rattle.tet_slots.specs.declared.slot.Slot.{Slot}
 use Rattle.mesh_store.specs.Parts.{live_tets, mesh_in}
@@ -29,7 +30,7 @@ seen-requires-clause-aim c =
     let v = c.args.store.now in
     let there = (collapse_ends (mesh_in v.parts) c.args.u c.args.v (well_formed v.side v.parts c.requires.sound) c.requires.candidate).1 in
     let is : c.point-at.result ≡ point_at v.parts.points c.args.v = c.point-at.ensures ∙ ap (λ (ps : List Point). point_at ps c.args.v) c.slots.ensures.points in
-    let within : IsInBox (2 ^ 18) c.point-at.result = subst (IsInBox (2 ^ 18)) (sym is) (in-grid v.side c.requires.sound.box (point_at v.parts.points c.args.v) (c.requires.sound.in_box c.args.v origin there)) in
+    let within : IsInBox largest_side c.point-at.result = subst (IsInBox largest_side) (sym is) (in-grid v.side c.requires.sound.box (point_at v.parts.points c.args.v) (c.requires.sound.in_box c.args.v origin there)) in
     aim-collapse v.side v.parts c.requires.sound c.args.u c.args.v c.point-at.result is within
 
 pub are_apart-requires : goal.are_apart-requires
@@ -43,7 +44,7 @@ seen-requires-in-Better c =
     let v = c.args.store.now in
     let there = (collapse_ends (mesh_in v.parts) c.args.u c.args.v (well_formed v.side v.parts c.requires.sound) c.requires.candidate).1 in
     let at : c.point-at.result ≡ point_at v.parts.points c.args.v = c.point-at.ensures ∙ ap (λ (ps : List Point). point_at ps c.args.v) c.slots.ensures.points in
-    let within : IsInBox (2 ^ 18) c.point-at.result = subst (IsInBox (2 ^ 18)) (sym at) (in-grid v.side c.requires.sound.box (point_at v.parts.points c.args.v) (c.requires.sound.in_box c.args.v origin there)) in
+    let within : IsInBox largest_side c.point-at.result = subst (IsInBox largest_side) (sym at) (in-grid v.side c.requires.sound.box (point_at v.parts.points c.args.v) (c.requires.sound.in_box c.args.v origin there)) in
     let is : c.in_ok-single-in-Better.single ≡ list_all (is_apart c.args.u c.args.v (near_tets (Shift c.args.v 0) v.parts.slots)) (near_tets (Collapse c.args.u c.args.v) v.parts.slots) =
     c.in_ok-single-in-Better.ensures ∙ (λ i. list_all (is_apart c.args.u c.args.v (near_tets (Shift c.args.v 0) (c.slots-in-Better.ensures.slots i))) (map (corners_at (c.slots-in-Better.ensures.slots i)) (c.requires.near i))) in
     let all : c.in_ok-single-in-Better.single ≡ list_all (is_apart c.args.u c.args.v (filter (λ x. has x c.args.v) (live_tets v.parts.slots))) (filter (λ x. has x c.args.u) (live_tets v.parts.slots)) =

@@ -3,8 +3,8 @@ use Rattle.std.specs.List.{list_all}
 use Rattle.grid.specs.declared.shapes.Point.{Point}
 use Rattle.grid.specs.declared.shapes.Tet.{Tet}
 use Rattle.grid.specs.Determinants.{IsPositive}
-use Rattle.grid.specs.Meshes.{most_made}
 use Rattle.grid.specs.Simplices.{IsTet, replaced}
+use Rattle.grid.specs.Limits.{most_made}
 use Rattle.tet_slots.specs.declared.slot.Slot.{Slot}
 use Rattle.mesh_store.specs.Exchanges.{tet_in}
 use Rattle.local_ops.specs.Measures.{is_positive}

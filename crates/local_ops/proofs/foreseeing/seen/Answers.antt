@@ -2,7 +2,7 @@ use Rattle.std.proofs.Common.{◌≡◌, ◌∙◌, ◌<◌, ◌+◌, ◌*◌, �
 use Rattle.std.specs.List.{list_all}
 use Rattle.grid.specs.declared.shapes.Point.{Point}
 use Rattle.grid.specs.Determinants.{IsPositive}
-use Rattle.grid.specs.Meshes.{most_made, most_points}
+use Rattle.grid.specs.Limits.{most_points, most_made}
 use Rattle.mesh_types.specs.declared.tries.Why.TheVariants as why
 use Rattle.mesh_types.specs.Journals.{setting}
 use Rattle.tet_slots.specs.declared.slot.Slot.{Slot}

@@ -1,8 +1,9 @@
-use Rattle.std.proofs.Common.{◌≡◌, ◌∙◌, ◌^◌, ◌+ℤ◌, ◌*ℤ◌, pos, SFits, to_z, of_z, to_z-of_z, ap, sym, subst, arith, rules}
+use Rattle.std.proofs.Common.{◌≡◌, ◌∙◌, ◌+ℤ◌, ◌*ℤ◌, pos, SFits, to_z, of_z, to_z-of_z, ap, sym, subst, arith, rules}
 use mir.Syntax.{w32, w64}
 use Rattle.std.specs.Int.{int_div_euclid}
 use Rattle.std.proofs.Math.Facts.{to_z_pos}
 use Rattle.grid.specs.Boxes.{IsUpTo}
+use Rattle.grid.specs.Limits.{largest_side}
 use Rattle.local_ops.specs.Smoothing.{mean_of}
 use Rattle.local_ops.proofs.Means.{mean-in, small-fits}
 use Rattle.local_ops.proofs.smoothing.mean.Goals as goal
@@ -12,7 +13,7 @@ returns-clause-value c =
     let s : to_z w64 (of_z w64 c.args.sum) ≡ c.args.sum = to_z-of_z c.ranges.sum in
     let n : to_z w64 c.args.count ≡ pos c.args.count = to_z_pos w64 (omega arith) in
     let is : c.rounded.result ≡ mean_of c.args.sum c.args.count = c.rounded.ensures ∙ (λ i. int_div_euclid (pos 2 *ℤ s i +ℤ n i) (pos 2 *ℤ n i)) in
-    let within : IsUpTo (2 ^ 18) c.rounded.result = subst (IsUpTo (2 ^ 18)) (sym is) (mean-in (2 ^ 18) c.args.count c.args.sum c.requires.some c.requires.sum_in) in
+    let within : IsUpTo largest_side c.rounded.result = subst (IsUpTo largest_side) (sym is) (mean-in largest_side c.args.count c.args.sum c.requires.some c.requires.sum_in) in
     let wide : SFits w64 c.rounded.result = search rules in
     ap (λ z. to_z w32 (of_z w32 z)) (to_z-of_z wide) ∙ (to_z-of_z (small-fits c.rounded.result within) ∙ is)
 
@@ -21,6 +22,6 @@ returns-clause-within c =
     let s : to_z w64 (of_z w64 c.args.sum) ≡ c.args.sum = to_z-of_z c.ranges.sum in
     let n : to_z w64 c.args.count ≡ pos c.args.count = to_z_pos w64 (omega arith) in
     let is : c.rounded.result ≡ mean_of c.args.sum c.args.count = c.rounded.ensures ∙ (λ i. int_div_euclid (pos 2 *ℤ s i +ℤ n i) (pos 2 *ℤ n i)) in
-    let within : IsUpTo (2 ^ 18) c.rounded.result = subst (IsUpTo (2 ^ 18)) (sym is) (mean-in (2 ^ 18) c.args.count c.args.sum c.requires.some c.requires.sum_in) in
+    let within : IsUpTo largest_side c.rounded.result = subst (IsUpTo largest_side) (sym is) (mean-in largest_side c.args.count c.args.sum c.requires.some c.requires.sum_in) in
     let wide : SFits w64 c.rounded.result = search rules in
-    subst (IsUpTo (2 ^ 18)) (sym (ap (λ z. to_z w32 (of_z w32 z)) (to_z-of_z wide) ∙ to_z-of_z (small-fits c.rounded.result within))) within
+    subst (IsUpTo largest_side) (sym (ap (λ z. to_z w32 (of_z w32 z)) (to_z-of_z wide) ∙ to_z-of_z (small-fits c.rounded.result within))) within

@@ -1,8 +1,9 @@
-use Rattle.std.proofs.Common.{◌≡◌, ◌∙◌, ◌^◌, List, SFits, to_z, of_z, to_z-of_z, nat_abs, length, ap, sym, subst, rules}
+use Rattle.std.proofs.Common.{◌≡◌, ◌∙◌, List, SFits, to_z, of_z, to_z-of_z, nat_abs, length, ap, sym, subst, rules}
 use mir.Syntax.{w32}
 use Rattle.grid.specs.declared.shapes.Point.{Point}
 use Rattle.grid.specs.Boxes.{IsInBox}
 use Rattle.grid.specs.Determinants.{point_at, origin}
+use Rattle.grid.specs.Limits.{largest_side}
 use Rattle.mesh_types.specs.Results.{shifted_to, sum_at}
 use Rattle.local_ops.specs.Smoothing.{mean_of}
 use Rattle.local_ops.proofs.Means.{in-grid}
@@ -12,7 +13,7 @@ pub moved_from-requires-clause-from_in : goal.moved_from-requires-clause-from_in
 moved_from-requires-clause-from_in c =
     let v = c.args.store.now in
     let p : c.point.result ≡ point_at v.parts.points c.args.u = c.point.ensures ∙ ap (λ (ps : List Point). point_at ps c.args.u) c.slots-2.ensures.points in
-    subst (IsInBox (2 ^ 18)) (sym p) (in-grid v.side c.slots.ensures.sound.box (point_at v.parts.points c.args.u) (c.slots.ensures.sound.in_box c.args.u origin c.requires.u_there))
+    subst (IsInBox largest_side) (sym p) (in-grid v.side c.slots.ensures.sound.box (point_at v.parts.points c.args.u) (c.slots.ensures.sound.in_box c.args.u origin c.requires.u_there))
 
 pub returns : goal.returns
 returns c =

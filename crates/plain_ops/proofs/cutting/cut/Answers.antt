@@ -1,6 +1,7 @@
-use Rattle.std.proofs.Common.{◌≡◌, ◌∙◌, ◌+◌, ◌≤◌, ◌^◌, ap, sym, subst, suc, arith, All, refl}
+use Rattle.std.proofs.Common.{◌≡◌, ◌∙◌, ◌+◌, ◌≤◌, ap, sym, subst, suc, arith, All, refl}
 use Rattle.grid.specs.Boxes.{IsInBox}
 use Rattle.grid.specs.Meshes.{Mesh, IsWellFormed, IsWithinLimits}
+use Rattle.grid.specs.Limits.{largest_side}
 use Rattle.mesh_types.specs.Phases.{phase}
 use Rattle.mesh_types.specs.Views.{mesh_of}
 use Rattle.cutting_rule.specs.Until.{until}
@@ -21,7 +22,7 @@ loop-i-preserved c =
     record {
       mesh = c.in_ok-cut-2.ensures ∙ (ap (λ x. phase x t i) c.loop-i.invariant.mesh ∙ ap (until m t) next);
       within = c.if-not-is_within_limits.ensures.yes refl;
-      in_box = subst (λ (n : Mesh). All (IsInBox (2 ^ 18)) n.points) (sym c.in_ok-cut-2.ensures) (phase-in (mesh_of c.loop-i.cut) t i (2 ^ 18) w c.loop-i.invariant.in_box);
+      in_box = subst (λ (n : Mesh). All (IsInBox largest_side) n.points) (sym c.in_ok-cut-2.ensures) (phase-in (mesh_of c.loop-i.cut) t i largest_side w c.loop-i.invariant.in_box);
     }
 
 pub returns-then-not-is_within_limits : goal.returns-then-not-is_within_limits

@@ -1,9 +1,10 @@
-use Rattle.std.proofs.Common.{◌∙◌, ◌^◌, Option, None, Some, MatchOption, rules, refl, subst}
+use Rattle.std.proofs.Common.{◌∙◌, Option, None, Some, MatchOption, rules, refl, subst}
 use Rattle.grid.specs.declared.shapes.Tri.{Tri}
 use Rattle.grid.specs.Boxes.{IsTriInBox}
 use Rattle.grid.specs.Envelopes.{triangle_at}
 use Rattle.grid.specs.Meshes.{Mesh, IsWithinLimits}
 use Rattle.grid.specs.Planes.{IsDegenerate}
+use Rattle.grid.specs.Limits.{largest_side}
 use Rattle.mesh_types.specs.declared.lists.Lists.{Lists}
 use Rattle.mesh_types.specs.declared.outcome.Defect.TheVariants.{Degenerate, Full}
 use Rattle.mesh_types.specs.Phases.{cut_by}
@@ -31,7 +32,7 @@ settle-requires-clause-cut c =
       before = c.requires.well_formed;
       cut = cut;
       some_area = subst (λ s. ¬ IsDegenerate s) c.triangle-tri.ensures.value area;
-      tri_in = subst (IsTriInBox (2 ^ 18)) c.triangle-tri.ensures.value c.triangle-tri.ensures.within;
+      tri_in = subst (IsTriInBox largest_side) c.triangle-tri.ensures.value c.triangle-tri.ensures.within;
     }
 
 pub returns-then-is_none : goal.returns-then-is_none

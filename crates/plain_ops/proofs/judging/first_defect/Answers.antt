@@ -1,8 +1,9 @@
-use Rattle.std.proofs.Common.{◌^◌, All, sym, subst}
+use Rattle.std.proofs.Common.{All, sym, subst}
 use Rattle.grid.specs.Boxes.{IsInBox}
 use Rattle.grid.specs.Determinants.{IsPositive}
 use Rattle.grid.specs.Envelopes.{triangle_at}
 use Rattle.grid.specs.Views.{corners_of}
+use Rattle.grid.specs.Limits.{largest_side}
 use Rattle.mesh_types.specs.Insertion.{NamesFirst}
 use Rattle.mesh_types.specs.Views.{mesh_of}
 use Rattle.cutting_rule.proofs.FirstDefects.{inverted-first}
@@ -11,7 +12,7 @@ use Rattle.plain_ops.proofs.Meshes.{tets-are}
 use Rattle.plain_ops.proofs.judging.first_defect.Goals as goal
 
 pub first_inverted-requires-clause-in_box : goal.first_inverted-requires-clause-in_box
-first_inverted-requires-clause-in_box c = subst (All (IsInBox (2 ^ 18))) (sym c.as_slice.ensures) c.requires.cut.cut.in_box
+first_inverted-requires-clause-in_box c = subst (All (IsInBox largest_side)) (sym c.as_slice.ensures) c.requires.cut.cut.in_box
 
 pub first_inverted-requires-clause-tets_are : goal.first_inverted-requires-clause-tets_are
 first_inverted-requires-clause-tets_are c =

@@ -1,7 +1,8 @@
-use Rattle.std.proofs.Common.{◌^◌, All, sym, subst}
+use Rattle.std.proofs.Common.{All, sym, subst}
 use Rattle.grid.specs.Boxes.{IsInBox}
 use Rattle.grid.specs.Envelopes.{triangle_at}
 use Rattle.grid.specs.Views.{triples_of}
+use Rattle.grid.specs.Limits.{largest_side}
 use Rattle.mesh_types.specs.Insertion.{NamesFirst, IsUncovered}
 use Rattle.mesh_types.specs.Views.{mesh_of}
 use Rattle.cutting_rule.proofs.FirstDefects.{uncovered-first, none-first}
@@ -9,7 +10,7 @@ use Rattle.plain_ops.proofs.CutMeshes.{cut-well_formed, tracked-there}
 use Rattle.plain_ops.proofs.judging.judge_near.Goals as goal
 
 pub first_uncovered-found-requires-clause-in_box : goal.first_uncovered-found-requires-clause-in_box
-first_uncovered-found-requires-clause-in_box c = subst (All (IsInBox (2 ^ 18))) (sym c.as_slice-points.ensures) c.requires.cut.cut.in_box
+first_uncovered-found-requires-clause-in_box c = subst (All (IsInBox largest_side)) (sym c.as_slice-points.ensures) c.requires.cut.cut.in_box
 
 pub first_uncovered-found-requires-clause-there : goal.first_uncovered-found-requires-clause-there
 first_uncovered-found-requires-clause-there c =

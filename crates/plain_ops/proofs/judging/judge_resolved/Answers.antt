@@ -1,8 +1,9 @@
-use Rattle.std.proofs.Common.{◌^◌, All, sym, subst}
+use Rattle.std.proofs.Common.{All, sym, subst}
 use Rattle.grid.specs.Boxes.{IsInBox}
 use Rattle.grid.specs.Determinants.{point_at}
 use Rattle.grid.specs.Envelopes.{triangle_at}
 use Rattle.grid.specs.Near.{Near}
+use Rattle.grid.specs.Limits.{largest_side}
 use Rattle.mesh_types.specs.Insertion.{NamesFirst, IsStray}
 use Rattle.mesh_types.specs.Phases.{section}
 use Rattle.mesh_types.specs.Views.{mesh_of}
@@ -11,7 +12,7 @@ use Rattle.plain_ops.proofs.CutMeshes.{cut-well_formed, faces-there}
 use Rattle.plain_ops.proofs.judging.judge_resolved.Goals as goal
 
 pub first_stray-requires-clause-in_box : goal.first_stray-requires-clause-in_box
-first_stray-requires-clause-in_box c = subst (All (IsInBox (2 ^ 18))) (sym c.as_slice.ensures) c.requires.cut.cut.in_box
+first_stray-requires-clause-in_box c = subst (All (IsInBox largest_side)) (sym c.as_slice.ensures) c.requires.cut.cut.in_box
 
 pub first_stray-requires-clause-there : goal.first_stray-requires-clause-there
 first_stray-requires-clause-there c =

@@ -1,7 +1,8 @@
-use Rattle.std.proofs.Common.{◌≡◌, ◌∙◌, ◌^◌, All, ℕ, length, nat_abs, SFits, to_z-of_z, ap, sym, subst, arith, rules}
+use Rattle.std.proofs.Common.{◌≡◌, ◌∙◌, All, ℕ, length, nat_abs, SFits, to_z-of_z, ap, sym, subst, arith, rules}
 use mir.Syntax.{w32}
 use Rattle.grid.specs.Boxes.{IsInBox}
 use Rattle.grid.specs.Determinants.{point_at}
+use Rattle.grid.specs.Limits.{largest_side}
 use Rattle.mesh_types.specs.Results.{neighbours, shifted_to, mean_at}
 use Rattle.mesh_types.specs.Views.{mesh_of}
 use Rattle.plain_ops.specs.declared.targets.Axis.TheVariants.{X, Y, Z}
@@ -10,7 +11,7 @@ use Rattle.plain_ops.proofs.NearPoints.{neighbours-few, neighbours-some}
 use Rattle.plain_ops.proofs.targets.target.Goals as goal
 
 pub shifted_along-x-requires-clause-in_box : goal.shifted_along-x-requires-clause-in_box
-shifted_along-x-requires-clause-in_box c = subst (All (IsInBox (2 ^ 18))) (sym c.as_slice-points.ensures) c.requires.in_box
+shifted_along-x-requires-clause-in_box c = subst (All (IsInBox largest_side)) (sym c.as_slice-points.ensures) c.requires.in_box
 
 pub shifted_along-x-requires-clause-some : goal.shifted_along-x-requires-clause-some
 shifted_along-x-requires-clause-some c =
@@ -26,7 +27,7 @@ shifted_along-x-requires-clause-few c =
     omega (arith, ap (length {A = ℕ}) is, neighbours-few m c.args.u, most)
 
 pub shifted_along-y-requires-clause-in_box : goal.shifted_along-y-requires-clause-in_box
-shifted_along-y-requires-clause-in_box c = subst (All (IsInBox (2 ^ 18))) (sym c.as_slice-points.ensures) c.requires.in_box
+shifted_along-y-requires-clause-in_box c = subst (All (IsInBox largest_side)) (sym c.as_slice-points.ensures) c.requires.in_box
 
 pub shifted_along-y-requires-clause-some : goal.shifted_along-y-requires-clause-some
 shifted_along-y-requires-clause-some c =
@@ -42,7 +43,7 @@ shifted_along-y-requires-clause-few c =
     omega (arith, ap (length {A = ℕ}) is, neighbours-few m c.args.u, most)
 
 pub shifted_along-z-requires-clause-in_box : goal.shifted_along-z-requires-clause-in_box
-shifted_along-z-requires-clause-in_box c = subst (All (IsInBox (2 ^ 18))) (sym c.as_slice-points.ensures) c.requires.in_box
+shifted_along-z-requires-clause-in_box c = subst (All (IsInBox largest_side)) (sym c.as_slice-points.ensures) c.requires.in_box
 
 pub shifted_along-z-requires-clause-some : goal.shifted_along-z-requires-clause-some
 shifted_along-z-requires-clause-some c =

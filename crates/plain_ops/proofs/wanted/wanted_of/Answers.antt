@@ -1,5 +1,6 @@
-use Rattle.std.proofs.Common.{◌^◌, [], refl, arith, get_or}
+use Rattle.std.proofs.Common.{[], refl, arith, get_or}
 use Rattle.grid.specs.declared.shapes.Tet.{Tet}
+use Rattle.grid.specs.Limits.{largest_side}
 use Rattle.mesh_types.specs.Phases.{wanted_in}
 use Rattle.cutting_rule.proofs.Points.{points-in}
 use Rattle.cutting_rule.proofs.Steps.{mapped-step, mapped-end}
@@ -13,7 +14,7 @@ corner_points-corners-requires c = c.requires.tets_are c.loop-tet.tet-index no_t
 
 pub push_wanted-requires-clause-corners_in : goal.push_wanted-requires-clause-corners_in
 push_wanted-requires-clause-corners_in c =
-    points-in (2 ^ 18) c.args.points.now c.corner_points-corners.result (get_or c.args.tets.now c.loop-tet.tet-index no_tet).0 c.corner_points-corners.ensures c.requires.in_box (c.requires.tets_are c.loop-tet.tet-index no_tet (omega arith)).in_range
+    points-in largest_side c.args.points.now c.corner_points-corners.result (get_or c.args.tets.now c.loop-tet.tet-index no_tet).0 c.corner_points-corners.ensures c.requires.in_box (c.requires.tets_are c.loop-tet.tet-index no_tet (omega arith)).in_range
 
 pub loop-tet-preserved : goal.loop-tet-preserved
 loop-tet-preserved c =

@@ -7,6 +7,7 @@ use Rattle.int_algebra.specs.Within.{IsWithin}
 use Rattle.int_algebra.proofs.Bounds.{AreWithin, within_natural, within_cast, sum-IsWithin, product-IsWithin, wider-IsWithin}
 use Rattle.int_algebra.proofs.Kept.{Code, constant, variable, ◌⊕◌, ◌⊗◌, kept, code_value, is_safe, kept-value, fits_code}
 use Rattle.grid.specs.Planes as planes
+use Rattle.grid.specs.Limits.{largest_side}
 use Rattle.planes.proofs.MeanLemmas.{rounded_mean-IsUpTo}
 use Rattle.planes.proofs.mean.rounded_mean.Goals as goal
 
@@ -39,8 +40,8 @@ weighted_is c =
 
 weighted_in : (c : goal.After-weighted_sum-weighted) → IsWithin (2 ^ 76) c.weighted_sum-weighted.result
 weighted_in c =
-    let u = within_natural (2 ^ 18) c.args.u c.requires.u_in.low c.requires.u_in.high in
-    let v = within_natural (2 ^ 18) c.args.v c.requires.v_in.low c.requires.v_in.high in
+    let u = within_natural largest_side c.args.u c.requires.u_in.low c.requires.u_in.high in
+    let v = within_natural largest_side c.args.v c.requires.v_in.low c.requires.v_in.high in
     let f : IsWithin (2 ^ 57) (pos c.args.f) = record { within = c.requires.f_in } in
     let g : IsWithin (2 ^ 57) (pos c.args.g) = record { within = c.requires.g_in } in
     subst (IsWithin (2 ^ 76)) (sym (weighted_is c)) (wider-IsWithin (2 ^ 76) (sum-IsWithin (product-IsWithin u g) (product-IsWithin v f)) (omega arith))
@@ -80,13 +81,13 @@ div_euclid-requires-clause-no_overflow c =
 quotient_is : (c : goal.After-div_euclid) → c.div_euclid.result ≡ planes.rounded_mean c.args.u c.args.v c.args.f c.args.g
 quotient_is c = c.div_euclid.ensures ∙ ap₂ int_div_euclid (dividend_is c.before) (divisor_is c.before)
 
-quotient_in : (c : goal.After-div_euclid) → IsWithin (2 ^ 18) c.div_euclid.result
+quotient_in : (c : goal.After-div_euclid) → IsWithin largest_side c.div_euclid.result
 quotient_in c =
-    let h = rounded_mean-IsUpTo c.args.f c.args.g c.requires.some c.args.u c.args.v (2 ^ 18) c.requires.u_in c.requires.v_in in
-    subst (IsWithin (2 ^ 18)) (sym (quotient_is c)) (within_natural (2 ^ 18) _ h.low h.high)
+    let h = rounded_mean-IsUpTo c.args.f c.args.g c.requires.some c.args.u c.args.v largest_side c.requires.u_in c.requires.v_in in
+    subst (IsWithin largest_side) (sym (quotient_is c)) (within_natural largest_side _ h.low h.high)
 
 pub overflow_cast-result : goal.overflow_cast-result
-overflow_cast-result c = fits_code (2 ^ 18 ∷ []) (c.div_euclid.result ∷ []) (quotient_in c, tt) w32 (kept w128 (variable 0)) tt
+overflow_cast-result c = fits_code (largest_side ∷ []) (c.div_euclid.result ∷ []) (quotient_in c, tt) w32 (kept w128 (variable 0)) tt
 
 pub returns : goal.returns
-returns c = kept-value (2 ^ 18 ∷ []) (c.div_euclid.result ∷ []) (quotient_in c, tt) (kept w32 (kept w128 (variable 0))) tt ∙ quotient_is c
+returns c = kept-value (largest_side ∷ []) (c.div_euclid.result ∷ []) (quotient_in c, tt) (kept w32 (kept w128 (variable 0))) tt ∙ quotient_is c

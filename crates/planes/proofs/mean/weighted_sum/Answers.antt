@@ -5,6 +5,7 @@ use Rattle.std.proofs.Math.Facts.{to_z_pos}
 use Rattle.int_algebra.proofs.Bounds.{AreWithin, within_natural, within_cast}
 use Rattle.int_algebra.proofs.Kept.{Code, variable, ◌⊕◌, ◌⊗◌, kept, code_value, is_safe, kept-value, fits_code}
 use Rattle.grid.specs.Boxes.{IsUpTo}
+use Rattle.grid.specs.Limits.{largest_side}
 use Rattle.planes.proofs.mean.weighted_sum.Goals as goal
 
 -- the coordinate i, cast to 128 bits
@@ -24,9 +25,9 @@ abbrev values : ℤ → ℤ → ℕ → ℕ → List ℤ
 values u v f g = u ∷ v ∷ to_z w128 f ∷ to_z w128 g ∷ []
 
 abbrev bounds : List ℕ
-bounds = 2 ^ 18 ∷ 2 ^ 18 ∷ 2 ^ 57 ∷ 2 ^ 57 ∷ []
+bounds = largest_side ∷ largest_side ∷ 2 ^ 57 ∷ 2 ^ 57 ∷ []
 
-module _ (u v : ℤ) (f g : ℕ) (h : record { u_in : IsUpTo (2 ^ 18) u; v_in : IsUpTo (2 ^ 18) v; f_in : f ≤ 2 ^ 57; g_in : g ≤ 2 ^ 57 }) where
+module _ (u v : ℤ) (f g : ℕ) (h : record { u_in : IsUpTo largest_side u; v_in : IsUpTo largest_side v; f_in : f ≤ 2 ^ 57; g_in : g ≤ 2 ^ 57 }) where
   weight : (n : ℕ) → n ≤ 2 ^ 57 → to_z w128 n ≡ pos n
   weight n le = to_z_pos w128 (omega arith)
 

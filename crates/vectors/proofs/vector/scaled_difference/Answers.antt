@@ -5,6 +5,7 @@ use Rattle.int_algebra.proofs.Kept.{Code, variable, ◌⊖◌, ◌⊗◌, kept, 
 use Rattle.grid.specs.declared.shapes.Point.{Point}
 use Rattle.grid.specs.Boxes.{IsUpTo, IsInBox}
 use Rattle.grid.specs.Vectors as vectors
+use Rattle.grid.specs.Limits.{largest_side}
 use Rattle.vectors.specs.Bounded.{gap_of, IsVectorWithin}
 use Rattle.vectors.proofs.VectorLemmas.{points_within, gap_of-IsVectorWithin}
 use Rattle.vectors.proofs.vector.scaled_difference.Goals as goal
@@ -16,12 +17,12 @@ abbrev part : ℕ → Code
 part i = kept w64 (kept w32 (variable (1 + i))) ⊖ kept w64 (product i)
 
 abbrev bounds : List ℕ
-bounds = 2 ^ 6 ∷ 2 ^ 24 ∷ 2 ^ 24 ∷ 2 ^ 24 ∷ 2 ^ 18 ∷ 2 ^ 18 ∷ 2 ^ 18 ∷ []
+bounds = 2 ^ 6 ∷ 2 ^ 24 ∷ 2 ^ 24 ∷ 2 ^ 24 ∷ largest_side ∷ largest_side ∷ largest_side ∷ []
 
 abbrev values : Point → ℤ → Point → List ℤ
 values p t a = t ∷ p.x ∷ p.y ∷ p.z ∷ a.x ∷ a.y ∷ a.z ∷ []
 
-module _ (p a : Point) (t : ℤ) (h : record { p_in : IsInBox (2 ^ 24) p; t_in : IsUpTo (2 ^ 6) t; a_in : IsInBox (2 ^ 18) a }) where
+module _ (p a : Point) (t : ℤ) (h : record { p_in : IsInBox (2 ^ 24) p; t_in : IsUpTo (2 ^ 6) t; a_in : IsInBox largest_side a }) where
   all_in : AreWithin bounds (values p t a)
   all_in = (within_natural _ t h.t_in.low h.t_in.high, points_within h.p_in h.a_in)
 
@@ -59,4 +60,4 @@ returns-clause-value c = is c.args.p c.args.a c.args.t c.requires
 
 pub returns-clause-within : goal.returns-clause-within
 returns-clause-within c =
-    subst (IsVectorWithin (2 ^ 24)) (sym (is c.args.p c.args.a c.args.t c.requires)) (gap_of-IsVectorWithin (2 ^ 6) (2 ^ 18) c.args.t c.args.p c.args.a c.requires.p_in c.requires.t_in c.requires.a_in)
+    subst (IsVectorWithin (2 ^ 24)) (sym (is c.args.p c.args.a c.args.t c.requires)) (gap_of-IsVectorWithin (2 ^ 6) largest_side c.args.t c.args.p c.args.a c.requires.p_in c.requires.t_in c.requires.a_in)

@@ -1,13 +1,14 @@
-use Rattle.std.proofs.Common.{◌^◌, ℤ, subst, lit<, to_z, of_z, w32}
+use Rattle.std.proofs.Common.{ℤ, subst, lit<, to_z, of_z, w32}
 use Rattle.tri_distance.proofs.Limits.{up_to-IsWithin}
 use Rattle.grid.specs.Boxes.{IsUpTo}
+use Rattle.grid.specs.Limits.{largest_side}
 use Rattle.envelope_tree.specs.declared.bounds.Interval.{Interval}
 use Rattle.envelope_tree.specs.Bounds.{Spans}
 use Rattle.envelope_tree.proofs.Kept.{kept_is}
 use Rattle.envelope_tree.proofs.bounds.Bounds.of_triangle.Goals as goal
 
-at : (i : Interval) (z : ℤ) → Spans i (to_z w32 (of_z w32 z)) → IsUpTo (2 ^ 18) z → Spans i z
-at i z s h = subst (Spans i) (kept_is w32 (2 ^ 18) z (up_to-IsWithin z h) (lit< tt)) s
+at : (i : Interval) (z : ℤ) → Spans i (to_z w32 (of_z w32 z)) → IsUpTo largest_side z → Spans i z
+at i z s h = subst (Spans i) (kept_is w32 largest_side z (up_to-IsWithin z h) (lit< tt)) s
 
 pub returns-clause-encloses : goal.returns-clause-encloses
 returns-clause-encloses c =

@@ -1,7 +1,7 @@
 use Rattle.std.proofs.Common.{◌≡◌, ℕ, ◌<◌, ◌∙◌, ap, subst, length, List}
 use Rattle.std.specs.List.{list_any}
 use Rattle.std.specs.Str.{bytes_eq}
-use Rattle.grid.specs.Meshes.{most_made}
+use Rattle.grid.specs.Limits.{most_made}
 use Rattle.tet_slots.specs.declared.slot.Slot.{Slot}
 use Rattle.tracked.specs.Keys.{Keys}
 use Rattle.mesh_store.specs.Changes.{slots_split, triple_pieces}

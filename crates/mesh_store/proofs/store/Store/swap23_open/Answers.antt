@@ -17,7 +17,7 @@ use Rattle.mesh_store.proofs.Exchanged.{CanKill-there}
 use Rattle.mesh_store.proofs.PieceLemmas.{All-unmap}
 use Rattle.mesh_store.proofs.SwapMeshes.{edge-can_kill, face-first, face-second, face-none, face-alone, face-closed, face-can_kill, face-corners, mesh-face, beyond-face}
 use Rattle.mesh_store.proofs.store.Store.swap23_open.Goals as goal
-use Rattle.mesh_store.proofs.store.Store.swap23_open.Goals.{In_ok-having2, In-Some, In-Some-first_across, After-tet-x, After-first_across, After-outside_corner, After-subst-3}
+use Rattle.mesh_store.proofs.store.Store.swap23_open.Goals.{In_ok-having2, In-Some, After-tet-x, After-first_across, After-outside_corner, After-subst-3}
 
 slots-are : (c : In_ok-having2) → c.self.inside.slots.slots ≡ c.args.self.now.parts.slots
 slots-are c = ap (λ (v : StoreView). v.parts.slots) c.self.view_is

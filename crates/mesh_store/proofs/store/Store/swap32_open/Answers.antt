@@ -16,7 +16,7 @@ use Rattle.mesh_store.proofs.Exchanged.{CanKill-there}
 use Rattle.mesh_store.proofs.PieceLemmas.{All-unmap}
 use Rattle.mesh_store.proofs.SwapMeshes.{IsHinge, split-first, hinge-none, hinge-unchanged, hinge-corners, hinge-mesh, hinge-beyond, edge-can_kill}
 use Rattle.mesh_store.proofs.store.Store.swap32_open.Goals as goal
-use Rattle.mesh_store.proofs.store.Store.swap32_open.Goals.{In_ok-having2, After-first_outside, After-subst-2}
+use Rattle.mesh_store.proofs.store.Store.swap32_open.Goals.{In_ok-having2, After-first_outside}
 
 some-of : (n m : ℕ) → false ≡ nat_eq n 0 → n ≡ m → 0 < m
 some-of zero m e f = absurd (true≢false (sym e))

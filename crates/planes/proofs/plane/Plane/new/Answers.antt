@@ -5,6 +5,7 @@ use Rattle.int_algebra.specs.Within.{IsWithin}
 use Rattle.int_algebra.proofs.Bounds.{AreWithin, within_cast}
 use Rattle.int_algebra.proofs.Kept.{Code, variable, ◌⊗◌, kept, kept-value, fits_code}
 use Rattle.grid.proofs.Gaps.{square_is}
+use Rattle.grid.specs.Limits.{most_epsilon}
 use Rattle.planes.proofs.plane.Plane.new.Goals as goal
 
 abbrev product : Code
@@ -18,7 +19,7 @@ values n z = to_z w128 n ∷ z ∷ []
 
 sq_snap_in : (c : goal.After-squared_length) → c.args.snap * c.args.snap ≤ 2 ^ 24
 sq_snap_in c =
-    let h : c.args.snap * c.args.snap ≤ 4095 * 4095 = mul-le-mul c.requires.snap_high c.requires.snap_high in
+    let h : c.args.snap * c.args.snap ≤ most_epsilon * most_epsilon = mul-le-mul c.requires.snap_high c.requires.snap_high in
     omega (arith, h)
 
 length_in : (c : goal.After-squared_length) → IsWithin (2 ^ 76) c.squared_length.result
