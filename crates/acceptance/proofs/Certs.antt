@@ -7,7 +7,7 @@ use Rattle.mesh_types.specs.declared.cert.Cert.{Cert, out-Cert}
 use Rattle.mesh_types.specs.declared.cert.Cert.TheOpen.{Cert-F}
 use Rattle.mesh_types.specs.declared.cert.Cert.TheOpen as open_cert
 use Rattle.mesh_types.specs.Certificates.{pieces, Each, Covers, CoversLevel}
-use Rattle.cover.proofs.Parts.{piece_at}
+use Rattle.cover.proofs.ForCallers.{piece_at}
 use Rattle.report_text.specs.Plain.{IsPlainTop, IsPlainCert}
 
 four_plain : (P : Tri → Cert → Type 0) (Q : Cert → Type 0) → ((f : Tri) (c : Cert) → P f c → Q c) → (f : Tri) (parts : List Cert) → Each P (pieces f) parts → (length parts ≡ 4) × All Q parts

@@ -4,7 +4,7 @@ use Rattle.std.specs.List.{count_by, AllByRecursion as Each}
 use Rattle.std.proofs.lemmas.Bool.{cases_Bool}
 use Rattle.std.proofs.lemmas.List.Sums.{sum_by-append}
 use Rattle.grid.specs.Simplices.{has, faces, all_faces, is_rotation, count}
-use Rattle.mesh_types.proofs.FaceCorners.{no-face}
+use Rattle.mesh_types.proofs.ForCallers.{no-face}
 
 count-cons : (f x : List ℕ) (ts : List (List ℕ)) → count f (x ∷ ts) ≡ count_by (is_rotation f) (faces x) + count f ts
 count-cons f x ts = sum_by-append (λ g. cond (is_rotation f g) 1 0) (faces x) (all_faces ts)

@@ -3,8 +3,8 @@ use Rattle.std.proofs.Common.{◌≡◌, ℕ, ◌+◌, ◌<◌, ◌≤◌, true,
 use Rattle.std.specs.List.{AllZip, AllByRecursion as Each}
 use Rattle.std.proofs.lemmas.List.{length-map}
 use Rattle.std.proofs.lemmas.List.Elements.{All-from_recursion, recursion_from_All}
-use Rattle.cover.proofs.One.{certificate_law}
-use Rattle.grid.proofs.Rotations.{has3-cases}
+use Rattle.cover.proofs.ForCallers.{certificate_law}
+use Rattle.grid.proofs.ForCallers.{has3-cases}
 use Rattle.grid.specs.declared.shapes.Face.{Face}
 use Rattle.grid.specs.declared.shapes.Point.{Point}
 use Rattle.grid.specs.declared.shapes.Tri.{Tri}

@@ -6,20 +6,12 @@ use Rattle.std.proofs.lemmas.Int.{ints}
 use Rattle.std.proofs.lemmas.List.Elements.{recursion_from_All}
 use mathlib.Core.Logic.{Ne-symm}
 use Rattle.int_algebra.proofs.Laws.{linear}
-use Rattle.grid.proofs.Members.{count_by-cons_yes, count_by-cons_no}
+use Rattle.grid.proofs.ForCallers.{count_by-cons_yes, count_by-cons_no}
 use Rattle.grid.specs.Boxes.{IsOnOneSide}
-use Rattle.mesh_types.proofs.Replaced.{has_first}
+use Rattle.mesh_types.proofs.ForCallers.{has_first, total, bit, total-swap, count_by-total, Each-weaker, Each-of_flat_map, Each-both, Turn, still, once, twice, turn_of, has-reversed, rotations, same_corners_from, Cornered, number, count-number, number-Ordered, has-rising, cornered_of, IsTri, faces-IsTri, present}
 use Rattle.grid.specs.Meshes.{Mesh, Ordered, IsTriple, IsWellFormed, Tiles}
 use Rattle.grid.specs.Simplices.{has, faces, all_faces, is_rotation, count, rising, Rises, has_all, same_corners, IsTet}
 use Rattle.grid.specs.Limits.{most_made}
-use Rattle.mesh_types.proofs.Sums.{total, bit, total-swap, count_by-total}
-use Rattle.mesh_types.proofs.Each.{Each-weaker, Each-of_flat_map, Each-both}
-use Rattle.mesh_types.proofs.Same.{Turn, still, once, twice, turn_of, has-reversed, rotations, same_corners_from}
-use Rattle.mesh_types.proofs.Between.{Cornered}
-use Rattle.mesh_types.proofs.Counts.{number, count-number}
-use Rattle.mesh_types.proofs.Order.{number-Ordered}
-use Rattle.mesh_types.proofs.Refinement.{has-rising, cornered_of}
-use Rattle.mesh_types.proofs.Volume.{IsTri, faces-IsTri, present}
 use Rattle.acceptance.specs.OffBox.{IsOffBox}
 use Rattle.acceptance.proofs.Corners.{corner_present}
 

@@ -13,7 +13,7 @@ use Rattle.mesh_types.specs.declared.tries.End.{End}
 use Rattle.mesh_types.specs.declared.tries.TryLine.{TryLine}
 use Rattle.mesh_types.specs.Turns.{rolled_back}
 use Rattle.mesh_types.specs.Verdicts.{Setting}
-use Rattle.mesh_types.proofs.OneOutcome.{one-each}
+use Rattle.mesh_types.proofs.ForCallers.{one-each}
 use Rattle.report_text.specs.declared.report.Second.{Second}
 use Rattle.report_text.specs.Plain.{IsPlainOutcome, IsPlainAgain, ArePlainTries, IsPlainSecond}
 use Rattle.mesher.specs.Meshed.{IsPart, IsSecondOrNone}

@@ -4,7 +4,7 @@ use Rattle.std.proofs.lemmas.Int.{ints, by_lt_z}
 use native.Mathlib.Nat.{pow-suc, pow-zero}
 use Rattle.int_algebra.proofs.Ring.{◌⊕◌, ◌⊖◌, ◌⊗◌, constant}
 use Rattle.int_algebra.proofs.Orders.{below, one_more, given, ◌⊞◌, ◌⊠◌, ◌≼◌, natural-NonNegative}
-use Rattle.grid.proofs.VectorExpressions.{at_, zero_, one_}
+use Rattle.grid.proofs.ForCallers.{at_, zero_, one_}
 use Rattle.grid.specs.declared.shapes.Point.{Point}
 use Rattle.grid.specs.declared.shapes.Tri.{Tri}
 use Rattle.grid.specs.Boxes.{Axis, along_x, along_y, along_z, coordinate, Side, IsOn, corner_of}
@@ -15,8 +15,8 @@ use Rattle.mesh_types.specs.declared.cert.Cert.TheOpen.{Cert-F}
 use Rattle.mesh_types.specs.declared.cert.Cert.TheOpen as open_cert
 use Rattle.mesh_types.specs.Certificates.{pieces, Each, Covers, CoversLevel}
 use Rattle.tri_distance.specs.Apart.{IsApart}
-use Rattle.tri_distance.proofs.Beyond.{x_apart, y_apart, z_apart}
-use Rattle.cover.proofs.Parts.{parts_of_four}
+use Rattle.tri_distance.proofs.ForCallers.{x_apart, y_apart, z_apart}
+use Rattle.cover.proofs.ForCallers.{parts_of_four}
 use Rattle.soup.specs.Placement.{IsInside, IsTriInside}
 
 -- at least two steps inside 0 and l, at the scale 2 ^ k

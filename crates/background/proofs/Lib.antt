@@ -1,11 +1,11 @@
-pub mod Gather
-pub mod FaceKinds
-pub mod Places
-pub mod Once
-pub mod Spaced
-pub mod Volume
-pub mod Mates
+mod Gather
+mod FaceKinds
+mod Places
+mod Once
+mod Spaced
+mod Volume
+mod Mates
 pub mod Tiling
-pub mod WellFormed
-pub mod LimitLemmas
-pub mod SoFar
+mod WellFormed
+mod LimitLemmas
+mod SoFar

@@ -5,8 +5,7 @@ use Rattle.std.proofs.lemmas.Bool.{and_parts, or_cases, eqb-true, cases_lt, case
 use Rattle.grid.specs.Boxes.{Axis, along_x, along_y, along_z, coordinate, IsOnOneSide}
 use Rattle.grid.specs.Determinants.{point_at}
 use Rattle.grid.specs.Simplices.{is_rotation, reversed, count}
-use Rattle.grid.proofs.Members.{count_by-any, count_by-map}
-use Rattle.grid.proofs.Rotations.{IsRotation, rotation-to, rotation-back, rotation-reversed, rotation-corner}
+use Rattle.grid.proofs.ForCallers.{count_by-any, count_by-map, IsRotation, rotation-to, rotation-back, rotation-reversed, rotation-corner}
 use Rattle.mesh_types.specs.Lattice.{number_at, lattice_tets, lattice_points}
 use Rattle.background.proofs.Gather.{count_by-at_places-found, count_by-at_places-le}
 use Rattle.background.proofs.FaceKinds.{Place, place, along, Kind, at, face_at, kinds, same_place, rotated}

@@ -3,8 +3,7 @@ use Rattle.std.proofs.Common.{◌≡◌, ℕ, ◌+◌, ◌<◌, ◌≤◌, ◌�
 use Rattle.std.specs.List.{list_all}
 use Rattle.std.proofs.lemmas.Bool.{and_parts, and_from, or_cases, or_left, or_right, eq-eqb, leb-true, cases_lt, both_ways, not-true}
 use Rattle.grid.specs.Simplices.{faces, is_rotation, count, all_faces}
-use Rattle.grid.proofs.Members.{IsIn, count_by-found, count_by-le, count_by-map}
-use Rattle.grid.proofs.Rotations.{IsRotation, rotation-from, Same3, rotations-same}
+use Rattle.grid.proofs.ForCallers.{IsIn, count_by-found, count_by-le, count_by-map, IsRotation, rotation-from, Same3, rotations-same}
 use Rattle.mesh_types.specs.Lattice.{cube, at_places, lattice_tets}
 use Rattle.background.proofs.Gather.{flat_map-at_places, count_by-at_places-once, SameAt}
 use Rattle.background.proofs.FaceKinds.{Place, place, Kind, at, face_at, kinds, same_step, is_moved, rotated, is_match, same_place, is_apart, all_apart, all_once}

@@ -3,7 +3,7 @@ use Rattle.std.proofs.Common.{◌≡◌, ℕ, ◌+◌, ◌*◌, ◌<◌, ◌≤�
 use Rattle.std.proofs.lemmas.Bool.{and_parts, and_from, eqb-true, leb-true, eq-eqb}
 use Rattle.std.proofs.lemmas.Nat.{same_from_place}
 use Rattle.mesh_types.specs.Lattice.{number_at}
-use Rattle.grid.proofs.Members.{IsIn}
+use Rattle.grid.proofs.ForCallers.{IsIn}
 use Rattle.background.proofs.Gather.{number_is, SameAt}
 use Rattle.background.proofs.FaceKinds.{Place, Kind, at, kinds, small, is_small, all_small, same_place}
 

@@ -7,7 +7,7 @@ use Rattle.grid.specs.Boxes.{IsUpTo, IsInBox}
 use Rattle.grid.specs.Meshes.{IsTriple, IsWellFormed, IsWithinLimits}
 use Rattle.grid.specs.Simplices.{AreDifferent, IsTet}
 use Rattle.mesh_types.specs.Lattice.{number_at, cube, point, tet, lattice_points, lattice_tets}
-use Rattle.mesh_types.proofs.Inside.{IsUpTo-pos}
+use Rattle.mesh_types.proofs.ForCallers.{IsUpTo-pos}
 use Rattle.background.proofs.Gather.{number_is, length-at_places, All-at_places}
 use Rattle.background.proofs.FaceKinds.{Place, place, at, small, same_place}
 use Rattle.background.proofs.Places.{IsBelow, IsSmall, small-IsSmall, at-same, same_place-from}

@@ -5,7 +5,7 @@ use Rattle.std.proofs.lemmas.Bool.{cases_lt}
 use Rattle.std.proofs.lemmas.List.{take_more, take_all}
 use Rattle.std.proofs.lemmas.List.Elements.{All-append, All-cons, All-nil}
 use Rattle.std.proofs.Math.Seq.{take-add}
-use Rattle.mesh_types.proofs.Same.{rotation_still}
+use Rattle.mesh_types.proofs.ForCallers.{rotation_still}
 use Rattle.grid.specs.Simplices.{all_faces, faces, is_rotation}
 use Rattle.face_table.specs.Occurrences.{occurrences}
 use Rattle.face_table.specs.Pairing.{NoneTwice, LooseHave, IsFirstRepeat, IsFirstLooseWithout, face_at}

@@ -10,7 +10,7 @@ use Rattle.mesh_types.specs.declared.cert.Cert.TheOpen.{Cert-F}
 use Rattle.mesh_types.specs.declared.cert.Cert.TheOpen as open_cert
 use Rattle.mesh_types.specs.Certificates.{midpoint, triangle, pieces, Each, IsFaceNear, Covers, CoversLevel}
 use Rattle.mesh_types.specs.Hull.{weighted_sum}
-use Rattle.mesh_types.proofs.WeightedMeans.{hull_law}
+use Rattle.mesh_types.proofs.ForCallers.{hull_law}
 use Rattle.cover.specs.Envelope.{IsMeanNearTo, IsInEnvelope, EnvelopeLaw}
 use Rattle.cover.proofs.Parts.{HaveParts, piece_at, parts_of_four}
 use Rattle.cover.proofs.Means.{doubled, mean_at_piece, weights_first, weights_second, weights_third, weights_middle}

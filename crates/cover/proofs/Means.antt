@@ -7,7 +7,7 @@ use Rattle.grid.specs.declared.shapes.Point.{Point}
 use Rattle.grid.specs.declared.shapes.Tri.{Tri}
 use Rattle.grid.specs.Boxes.{corner_of}
 use Rattle.grid.specs.Near.{sq_gap}
-use Rattle.grid.proofs.Gaps.{square_is}
+use Rattle.grid.proofs.ForCallers.{square_is}
 use Rattle.mesh_types.specs.Hull.{weighted_sum, IsMeanNear}
 
 abbrev pub doubled : Point → Point

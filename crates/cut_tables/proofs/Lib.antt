@@ -1,3 +1,3 @@
-pub mod Agreement
-pub mod Sides
-pub mod Rows
+mod Agreement
+mod Sides
+mod Rows

@@ -20,11 +20,11 @@ use Rattle.grid.specs.declared.shapes.Tri.{Tri}
 use Rattle.grid.specs.Meshes.{Mesh}
 use Rattle.mesh_types.specs.Phases.{wanted_in, wanted, is_unresolved}
 use Rattle.mesh_types.specs.Tracking.{in_order_once}
-use Rattle.mesh_types.proofs.TripleSets.{is_among, is_among-in_order_once, equal_to, equal_from}
+use Rattle.mesh_types.proofs.ForCallers.{is_among, is_among-in_order_once, equal_to, equal_from}
 use Rattle.cutting_rule.specs.declared.edge.Edge.{Edge}
 use Rattle.cutting_rule.specs.Edges.{numbers_of}
 use Rattle.cutter.specs.First.{earlier, head, IsAtMost, IsFirstSlot, has_one_of, is_open}
-use Rattle.cutting_rule.proofs.Meeting.{same_bools}
+use Rattle.cutting_rule.proofs.ForCallers.{same_bools}
 
 -- ---- the lower of two
 at_most-left : (a b : Option ℕ) (j : ℕ) → IsAtMost a j → IsAtMost (earlier a b) j

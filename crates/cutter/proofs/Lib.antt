@@ -1,5 +1,6 @@
-pub mod Meeting
-pub mod Near
-pub mod TouchedSlots
-pub mod FirstSlots
-pub mod SectionPlaces
+mod Meeting
+mod Near
+mod TouchedSlots
+mod FirstSlots
+mod SectionPlaces
+pub mod ForCallers

@@ -15,7 +15,7 @@ use Rattle.mesh_types.specs.Phases.{points_of, is_section_face}
 use Rattle.cutting_rule.specs.Bounds.{overlaps, is_met}
 use Rattle.cutting_rule.specs.Section.{section_in, IsWithin}
 use Rattle.cutting_rule.specs.Touching.{touches, has_some_within, IsReach}
-use Rattle.cutting_rule.proofs.Sides.{on-sides}
+use Rattle.cutting_rule.proofs.ForCallers.{on-sides}
 
 -- the first corner of a face is one of the tetrahedron's
 record Begins (x f : List ℕ) : Type 0 where

@@ -10,7 +10,7 @@ use Rattle.grid.specs.declared.shapes.Tri.{Tri}
 use Rattle.grid.specs.Determinants.{point_at}
 use Rattle.grid.specs.Simplices.{IsTet}
 use Rattle.mesh_types.specs.Phases.{points_of}
-use Rattle.mesh_types.proofs.Refinement.{Each-map}
+use Rattle.mesh_types.proofs.ForCallers.{Each-map}
 use Rattle.mesh_store.specs.Changes.{IsGrown}
 use Rattle.mesh_store.specs.Parts.{Parts}
 use Rattle.tet_slots.specs.declared.slot.Slot.{Slot}

@@ -1,13 +1,13 @@
-pub mod Steps
-pub mod Sorting
-pub mod Ends
-pub mod Meeting
-pub mod Sides
-pub mod WantedEdges
-pub mod Segments
-pub mod SectionFaces
-pub mod Points
-pub mod PhaseCuts
+mod Steps
+mod Sorting
+mod Ends
+mod Meeting
+mod Sides
+mod WantedEdges
+mod Segments
+mod SectionFaces
+mod Points
+mod PhaseCuts
 mod SnapReaches
 mod Weights
 mod LongestAxes
@@ -15,8 +15,9 @@ mod Coordinates
 mod SectionBox
 mod Spreads
 mod Reaches
-pub mod Untouched
-pub mod Untils
-pub mod Naming
-pub mod SectionTriples
-pub mod FirstDefects
+mod Untouched
+mod Untils
+mod Naming
+mod SectionTriples
+mod FirstDefects
+pub mod ForCallers

@@ -11,15 +11,14 @@ use Rattle.grid.specs.Meshes.{Mesh, Ordered}
 use Rattle.grid.specs.Planes.{Plane}
 use Rattle.grid.specs.Simplices.{IsTet}
 use Rattle.planes.specs.Crossings.{HaveOppositeSigns}
-use Rattle.planes.proofs.PlaneLemmas.{crossing-IsInBox, crossing-IsOn}
+use Rattle.planes.proofs.ForCallers.{crossing-IsInBox, crossing-IsOn}
 use Rattle.mesh_types.specs.declared.cut.Cut.{Cut}
 use Rattle.mesh_types.specs.CuttingRule.{splits, phase_plane}
 use Rattle.mesh_types.specs.CutLists.{IsCut, AreCuts, ends_of}
 use Rattle.mesh_types.specs.Phases.{points_of, cut_at, wanted_in, wanted, wanted_cuts}
 use Rattle.mesh_types.specs.Refines.{IsCutOf, refine}
 use Rattle.mesh_types.specs.Tracking.{in_order_once}
-use Rattle.mesh_types.proofs.Refinement.{Each-map}
-use Rattle.mesh_types.proofs.TripleSets.{in_order_once-Ordered}
+use Rattle.mesh_types.proofs.ForCallers.{Each-map, in_order_once-Ordered}
 use Rattle.cutting_rule.specs.declared.edge.Edge.{Edge}
 use Rattle.cutting_rule.specs.Edges.{IsSplitEdge, numbers_of}
 use Rattle.cutting_rule.proofs.WantedEdges.{opposite, wanted-each}

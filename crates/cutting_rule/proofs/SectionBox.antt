@@ -15,7 +15,7 @@ use Rattle.grid.specs.Vectors.{Vector, difference, dot}
 use Rattle.grid.specs.Planes.{value_of, snap_sign, normal_of, unit_of, largest_axis, side_normal, side_plane, IsDegenerate}
 use Rattle.grid.specs.Limits.{largest_side}
 use Rattle.mesh_types.specs.CuttingRule.{lies_below, lies_on, section_plane, is_in_section}
-use Rattle.planes.proofs.SideLemmas.{side_plane-third}
+use Rattle.planes.proofs.ForCallers.{side_plane-third}
 use Rattle.cutting_rule.proofs.SnapReaches.{on_reach, above_reach, height_low, height_high}
 use Rattle.cutting_rule.proofs.Weights.{chosen, across, value_to, turned_z, second-same, third-same, values-sum, value-along, mean-x, mean-y, mean-z}
 use Rattle.cutting_rule.proofs.LongestAxes.{IsSmall, unit_small, turned_small, largest-IsAtMost, abs_turned, abs_in}

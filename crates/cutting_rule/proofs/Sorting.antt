@@ -17,7 +17,7 @@ use Rattle.std.proofs.lemmas.Map.Text.{is_eq-slice_cmp}
 use Rattle.std.proofs.Common.{arith, inl, inr}
 use Rattle.grid.specs.Meshes.{is_below, Ordered}
 use Rattle.mesh_types.specs.Tracking.{in_order_once}
-use Rattle.mesh_types.proofs.TripleSets.{is_among, equal_from, ordered_same, in_order_once-Ordered, is_among-in_order_once}
+use Rattle.mesh_types.proofs.ForCallers.{is_among, equal_from, ordered_same, in_order_once-Ordered, is_among-in_order_once}
 
 is_below-is_lt : (x y : List ℕ) (o : Ordering) → o ≡ slice_cmp nat_cmp x y → is_lt o ≡ is_below x y
 is_below-is_lt = same_from_slice_cmp nat_cmp is_lt is_below refl (λ _ _. refl) (λ _ _. refl) (λ x y xs ys o h. grind (arith, nat_tests))

@@ -5,8 +5,7 @@ use Rattle.grid.specs.Meshes.{Mesh, IsWellFormed, Weave, IsWithinLimits}
 use Rattle.mesh_types.specs.declared.cut.Cut.{Cut}
 use Rattle.mesh_types.specs.Phases.{wanted_cuts}
 use Rattle.mesh_types.specs.Refines.{refine}
-use Rattle.mesh_types.proofs.Weaving.{refinement_law}
-use Rattle.mesh_types.proofs.WellFormed.{refine-IsWellFormed}
+use Rattle.mesh_types.proofs.ForCallers.{refinement_law, refine-IsWellFormed}
 use Rattle.cutting_rule.specs.Until.{until}
 use Rattle.cutting_rule.proofs.PhaseCuts.{wanted_cuts-on}
 

@@ -13,12 +13,11 @@ use Rattle.grid.specs.Determinants.{point_at}
 use Rattle.grid.specs.Planes.{Plane, side_plane, value_of, snap_sign}
 use Rattle.grid.specs.Simplices.{rising, IsTet, AreDifferent}
 use Rattle.planes.specs.Crossings.{HaveOppositeSigns}
-use Rattle.planes.proofs.Signs.{HaveOppositeSigns-up, HaveOppositeSigns-down}
+use Rattle.planes.proofs.ForCallers.{HaveOppositeSigns-up, HaveOppositeSigns-down}
 use Rattle.mesh_types.specs.CuttingRule.{lies_below, lies_above, lies_on, splits, ranges_meet, boxes_meet, section_plane, phase_plane, is_crossed, is_wanted}
 use Rattle.mesh_types.specs.Phases.{points_of, edges, wanted_in}
 use Rattle.mesh_types.specs.Tracking.{in_order_once}
-use Rattle.mesh_types.proofs.Each.{Each-of_flat_map}
-use Rattle.mesh_types.proofs.TripleSets.{Each-in_order_once}
+use Rattle.mesh_types.proofs.ForCallers.{Each-of_flat_map, Each-in_order_once}
 use Rattle.cutting_rule.specs.Edges.{IsSplitEdge}
 
 -- ---- ends on both sides of a plane

@@ -3,7 +3,7 @@ use Rattle.std.proofs.Common.{◌≡◌, ℕ, Bool, true, false, if◌then◌els
 use Rattle.int_algebra.proofs.Ring.{Expression, constant, variable, ◌⊕◌, ◌⊖◌, ◌⊗◌, ring}
 use Rattle.int_algebra.proofs.Corners as corners
 use Rattle.int_algebra.proofs.Corners.{Corner, corner, less}
-use Rattle.grid.proofs.VectorExpressions.{coordinates_then}
+use Rattle.grid.proofs.ForCallers.{coordinates_then}
 use Rattle.grid.specs.declared.shapes.Point.{Point}
 use Rattle.grid.specs.Vectors.{Vector, difference, dot, cross, opposite}
 

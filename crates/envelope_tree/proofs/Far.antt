@@ -10,8 +10,7 @@ use Rattle.grid.specs.declared.shapes.Point.{Point}
 use Rattle.grid.specs.declared.shapes.Tri.{Tri}
 use Rattle.grid.specs.Boxes.{corner_of}
 use Rattle.grid.specs.Near.{gap_at, sq_gap, IsNearCorners, Near}
-use Rattle.grid.proofs.VectorExpressions.{at_, zero_, one_}
-use Rattle.grid.proofs.Gaps.{square_is}
+use Rattle.grid.proofs.ForCallers.{at_, zero_, one_, square_is}
 use Rattle.envelope_tree.specs.declared.bounds.Interval.{Interval}
 use Rattle.envelope_tree.specs.declared.bounds.Bounds.{Bounds}
 use Rattle.envelope_tree.specs.Bounds.{Spans, HasPoint, Encloses}

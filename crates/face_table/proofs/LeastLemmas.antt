@@ -8,7 +8,7 @@ use Rattle.std.specs.declared.cmp.Ordering.TheVariants.{Less, Equal, Greater}
 use Rattle.std.proofs.lemmas.Cmp.{nat_list_cmp_total}
 use Rattle.std.proofs.lemmas.Map.Lookups.{exact_bytes}
 use Rattle.grid.specs.Simplices.{is_rotation}
-use Rattle.grid.proofs.Rotations.{IsRotation, rotation-from, rotation-to}
+use Rattle.grid.proofs.ForCallers.{IsRotation, rotation-from, rotation-to}
 use Rattle.face_table.proofs.RotationLemmas.{rotation-of}
 use Rattle.face_table.specs.Keys.{lesser, least_rotation}
 

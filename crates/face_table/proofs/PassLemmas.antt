@@ -14,7 +14,7 @@ use Rattle.face_table.specs.declared.pairs.Paired.{Paired}
 use Rattle.face_table.specs.declared.pairs.Paired.TheVariants.{Good, Twice, Loose}
 use Rattle.face_table.specs.Passes.{IsRepeatAfter, AreCounted}
 use Rattle.face_table.proofs.RotationLemmas.{occurrences-rotation, occurrences-append, occurrences-push, reversed-both}
-use Rattle.grid.proofs.Members.{count_by-cons_no}
+use Rattle.grid.proofs.ForCallers.{count_by-cons_no}
 
 -- ---- places of a part of a list
 take-part : (before part after : List (List ℕ)) (j : ℕ) → j ≤ length part → take (length before + j) (before ++ (part ++ after)) ≡ before ++ take j part

@@ -4,8 +4,7 @@ use Rattle.std.specs.Cmp.{both_ways}
 use Rattle.std.proofs.lemmas.Bool.{false≢true, or_left, or_right, eq-eqb}
 use Rattle.std.proofs.lemmas.List.Sums.{sum_by-append}
 use Rattle.grid.specs.Simplices.{has, is_rotation, reversed}
-use Rattle.grid.proofs.Members.{count_by-cons, count_by-same}
-use Rattle.grid.proofs.Rotations.{IsRotation, rotation-from, rotation-to, rotation-back, rotation-reversed, rotation-corner}
+use Rattle.grid.proofs.ForCallers.{count_by-cons, count_by-same, IsRotation, rotation-from, rotation-to, rotation-back, rotation-reversed, rotation-corner}
 use Rattle.face_table.specs.Occurrences.{occurrences}
 
 -- ---- corners

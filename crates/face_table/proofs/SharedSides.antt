@@ -10,10 +10,9 @@ use Rattle.grid.specs.declared.shapes.Point.{Point}
 use Rattle.grid.specs.Boxes.{Axis, along_x, along_y, along_z, Side, IsOn, IsOnOneSide}
 use Rattle.grid.specs.Determinants.{point_at}
 use Rattle.grid.specs.Simplices.{is_rotation}
-use Rattle.grid.proofs.Rotations.{has3-cases}
+use Rattle.grid.proofs.ForCallers.{has3-cases, side_bits-IsOn}
 use Rattle.face_table.proofs.RotationLemmas.{has3-first, has3-second, has3-third, has-rotation}
 use Rattle.grid.specs.SideBits.{bit_of, number_of, side_bits}
-use Rattle.grid.proofs.SideLemmas.{side_bits-IsOn}
 use Rattle.face_table.specs.declared.pairs.Paired.{Paired}
 use Rattle.face_table.specs.Pairing.{LiesOn, LieOnOneSide, IsPairedBy, IsPairing}
 use Rattle.face_table.proofs.PassLemmas.{IsPairedBy-same}

@@ -5,7 +5,7 @@ use Rattle.std.proofs.Math.Seq.{get_or-append_seam}
 use Rattle.std.proofs.lemmas.Bool.{cases_Bool, cases_lt, eqb-true, eqb-false, false≢true}
 use Rattle.std.proofs.lemmas.List.{get_or-replicate, get_or-set_same, get_or-set_other, length-set, length_push}
 use Rattle.std.proofs.lemmas.List.Sums.{sum_by-set}
-use Rattle.grid.proofs.Members.{count_by-cons_yes}
+use Rattle.grid.proofs.ForCallers.{count_by-cons_yes}
 use Rattle.flood.specs.Floods.{AreReachable, Fills, IsFilled, IsListed, IsLoose, IsOn, IsReachable, starts, goes_on, Reaches, is_marked}
 
 -- ---- one more mark

@@ -7,7 +7,7 @@ use Rattle.std.proofs.lemmas.List.Sums.{sum_by-append}
 use Rattle.grid.specs.declared.shapes.Face.{Face}
 use Rattle.grid.specs.Simplices.{all_faces, count, faces, is_rotation, reversed, rising}
 use Rattle.grid.specs.Regions.{AreRegions, IsOpenTo, IsOutside, starts as starts_outside, goes_on as goes_on_outside}
-use Rattle.grid.proofs.Members.{count_by-cons_yes, count_by-cons_no}
+use Rattle.grid.proofs.ForCallers.{count_by-cons_yes, count_by-cons_no}
 use Rattle.flood.specs.HalfFaces.{AreFacets, AreOpen, ArePaired, facet_at, half_face, is_mate, tet_of, triple_at}
 use Rattle.flood.specs.Chains.{IsLast}
 use Rattle.flood.specs.Floods.{AreReachable, IsLoose, IsOn, IsReachable, starts, goes_on}

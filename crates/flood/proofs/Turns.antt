@@ -3,7 +3,7 @@ use Rattle.std.proofs.Common.{◌≡◌, ℕ, ◌⊎◌, true, false, cond, List
 use Rattle.std.proofs.lemmas.Bool.{false≢true}
 use Rattle.std.proofs.lemmas.Bool.Decides.{nat_tests}
 use Rattle.grid.specs.Simplices.{insert_number, is_rotation, reversed, rising}
-use Rattle.grid.proofs.Rotations.{IsRotation, rotation-from, rotation-to, rotation-back, rotation-reversed}
+use Rattle.grid.proofs.ForCallers.{IsRotation, rotation-from, rotation-to, rotation-back, rotation-reversed}
 
 -- what holds of any two triples of which one is a rotation of the other
 on_triples : (P : List ℕ → List ℕ → Type 0) → ((a b c u v w : ℕ) → IsRotation (a ∷ b ∷ c ∷ []) u v w → P (a ∷ b ∷ c ∷ []) (u ∷ v ∷ w ∷ [])) → (f g : List ℕ) → is_rotation f g ≡ true → P f g

@@ -1,6 +1,7 @@
-pub mod Members
-pub mod Rotations
-pub mod VectorExpressions
-pub mod Gaps
-pub mod EdgeLemmas
-pub mod SideLemmas
+mod Members
+mod Rotations
+mod VectorExpressions
+mod Gaps
+mod EdgeLemmas
+mod SideLemmas
+pub mod ForCallers

@@ -4,7 +4,7 @@ use Rattle.std.specs.List.{Contains}
 use Rattle.std.proofs.lemmas.Bool.{cases_Bool}
 use Rattle.std.proofs.lemmas.List.Elements.{All-contains, All-from_recursion}
 use Rattle.mesh_types.specs.declared.tries.Try.{Try}
-use Rattle.mesh_types.proofs.Among.{Among, among-all}
+use Rattle.mesh_types.proofs.ForCallers.{Among, among-all}
 use Rattle.improve.specs.Search.{beats, lower, lowest}
 use Rattle.improve.proofs.Lowest.{NotBefore, lowest-takes, and-no}
 

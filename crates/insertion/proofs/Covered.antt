@@ -10,15 +10,13 @@ use Rattle.grid.specs.Near.{Near}
 use Rattle.mesh_types.specs.Certificates.{HasCertificate}
 use Rattle.mesh_types.specs.Phases.{points_of, section}
 use Rattle.mesh_types.specs.Tracking.{in_order_once, with_tracked}
-use Rattle.mesh_types.proofs.Each.{Each-append}
-use Rattle.mesh_types.proofs.TripleSets.{Each-in_order_once}
+use Rattle.mesh_types.proofs.ForCallers.{Each-append, Each-in_order_once}
 use Rattle.insertion.specs.Bare.{HasNewCorner, IsKept, IsCovered}
-use Rattle.cutting_rule.proofs.Naming.{all-has}
-use Rattle.cover.proofs.Decisions.{leaf_law}
+use Rattle.cutting_rule.proofs.ForCallers.{all-has, section-triples}
+use Rattle.cover.proofs.ForCallers.{leaf_law}
 use Rattle.grid.specs.Envelopes.{triangle_at}
 use Rattle.mesh_types.specs.Insertion.{face_at}
-use Rattle.cutter.proofs.TouchedSlots.{points-kept}
-use Rattle.cutting_rule.proofs.SectionTriples.{section-triples}
+use Rattle.cutter.proofs.ForCallers.{points-kept}
 
 -- a face whose corners are near to a triangle
 face-covered : (points : List Point) (triangles : List Tri) (e t : ℕ) (f : List ℕ) → t < length triangles → length f ≡ 3 → All (λ u. Near (point_at points u) 0 (triangle_at triangles t) e) f → IsCovered triangles e points f

@@ -11,13 +11,11 @@ use Rattle.grid.specs.Simplices.{rising, Rises}
 use Rattle.mesh_types.specs.declared.cut.Cut.{Cut}
 use Rattle.mesh_types.specs.Phases.{wanted_cuts}
 use Rattle.mesh_types.specs.Refines.{refine, sub_all, is_touched}
-use Rattle.mesh_types.proofs.Each.{Each-weaker, Each-of_flat_map}
-use Rattle.mesh_types.proofs.Refinement.{Each-map, Each-in_order, has-rising, sub_all-untouched}
-use Rattle.mesh_types.proofs.TripleSets.{is_among, equal_to, equal_from}
-use Rattle.mesh_store.proofs.FacePieces.{rising-risen}
+use Rattle.mesh_types.proofs.ForCallers.{Each-weaker, Each-of_flat_map, Each-map, Each-in_order, has-rising, sub_all-untouched, is_among, equal_to, equal_from}
+use Rattle.mesh_store.proofs.ForCallers.{rising-risen}
 use Rattle.insertion.proofs.NewPieces.{HasNew, touched-new}
 use Rattle.cutting_rule.specs.Until.{until}
-use Rattle.cutting_rule.proofs.Untils.{until-well_formed, until-points}
+use Rattle.cutting_rule.proofs.ForCallers.{until-well_formed, until-points}
 use Rattle.insertion.specs.Bare.{HasNewCorner}
 
 -- ---- new corners

@@ -15,11 +15,9 @@ use Rattle.grid.specs.Views.{triples_of}
 use Rattle.mesh_types.specs.Insertion.{NamesFirst}
 use Rattle.mesh_types.specs.Phases.{points_of}
 use Rattle.mesh_types.specs.Tracking.{in_order_once}
-use Rattle.mesh_types.proofs.TripleSets.{is_among, equal_from, in_order_once-Ordered, is_among-in_order_once}
+use Rattle.mesh_types.proofs.ForCallers.{is_among, equal_from, in_order_once-Ordered, is_among-in_order_once}
 use Rattle.mesh_store.specs.Parts.{tracked_in}
-use Rattle.mesh_store.proofs.FaceSearches.{chosen-is}
-use Rattle.mesh_store.proofs.KeySets.{tracked-triples}
-use Rattle.mesh_store.proofs.Moves.{among-filter}
+use Rattle.mesh_store.proofs.ForCallers.{chosen-is, tracked-triples, among-filter}
 use Rattle.tracked.specs.Keys.{Keys, faces_at, faces_in}
 use Rattle.insertion.specs.Bare.{IsBare, IsKept, is_fresh}
 use Rattle.insertion.proofs.Starting.{kept-not}

@@ -1,11 +1,12 @@
-pub mod Growing
-pub mod Listed
-pub mod Old
-pub mod NewPieces
-pub mod Fresh
-pub mod Starting
-pub mod Tiling
-pub mod Covered
-pub mod Turning
+mod Growing
+mod Listed
+mod Old
+mod NewPieces
+mod Fresh
+mod Starting
+mod Tiling
+mod Covered
+mod Turning
 mod RolledBack
-pub mod FreshFaces
+mod FreshFaces
+pub mod ForCallers

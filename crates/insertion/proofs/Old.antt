@@ -10,7 +10,7 @@ use Rattle.mesh_store.specs.Changes.{IsGrown}
 use Rattle.mesh_store.specs.Parts.{Parts, live_tets}
 use Rattle.tet_slots.specs.declared.slot.Slot.{Slot}
 use Rattle.tet_slots.specs.Slots.{slot_at, no_slot}
-use Rattle.cutter.proofs.TouchedSlots.{point-kept}
+use Rattle.cutter.proofs.ForCallers.{point-kept}
 
 det-kept : (old new : List Point) (x : List ℕ) → take (length old) new ≡ old → Each (λ u. u < length old) x → det_at new x ≡ det_at old x
 det-kept old new (a ∷ b ∷ c ∷ d ∷ []) e h =

@@ -17,7 +17,7 @@ use Rattle.grid.specs.declared.shapes.Point.{Point}
 use Rattle.grid.specs.Limits.{largest_side}
 use Rattle.insertion.specs.Bare.{IsBare, IsKept, HasNewCorner}
 use Rattle.insertion.specs.Progress.{start_of, closed, IsOpenFrom, IsCut}
-use Rattle.cutting_rule.proofs.Naming.{all-has}
+use Rattle.cutting_rule.proofs.ForCallers.{all-has}
 
 grown-refl : (m : Parts) → IsGrown m m
 grown-refl m = record { points = take_all (length m.points) m.points (omega arith); longer = omega arith; tets = λ i lt. refl; killed = λ i lt e. e }

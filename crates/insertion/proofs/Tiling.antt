@@ -9,11 +9,9 @@ use Rattle.grid.specs.Meshes.{Mesh, IsWellFormed, Weave, Tiles}
 use Rattle.grid.specs.Simplices.{all_faces, rising}
 use Rattle.mesh_types.specs.Phases.{section, is_section_face}
 use Rattle.mesh_types.specs.Tracking.{in_order_once, with_tracked}
-use Rattle.mesh_types.proofs.Each.{Each-append}
-use Rattle.mesh_types.proofs.TripleSets.{Each-in_order_once}
-use Rattle.mesh_types.proofs.Twins.{tiling_law}
+use Rattle.mesh_types.proofs.ForCallers.{Each-append, Each-in_order_once, tiling_law}
 use Rattle.cutting_rule.specs.Until.{until}
-use Rattle.cutting_rule.proofs.Untils.{until-weaves}
+use Rattle.cutting_rule.proofs.ForCallers.{until-weaves}
 
 -- a mesh that weaves, whose tetrahedra are positive, tiles with more of its faces tracked
 pub tiles-tracked : (n : Mesh) (fs : List (List ℕ)) (l : ℕ) → Weave n l → All (IsPositive n.points) n.tets → Each (Contains (map rising (all_faces n.tets))) fs → Tiles (with_tracked n fs) l

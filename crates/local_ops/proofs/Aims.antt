@@ -13,13 +13,11 @@ use Rattle.mesh_types.specs.declared.tries.Try.{Try}
 use Rattle.mesh_types.specs.declared.tries.Try.TheVariants.{Split, Shift, Collapse}
 use Rattle.mesh_types.specs.Refines.{is_touched, sub_all, refine}
 use Rattle.mesh_types.specs.Results.{midpoint_floored, middle_cut, target, split, shift, collapse}
-use Rattle.mesh_types.proofs.Chosen.{Each-passed}
-use Rattle.mesh_types.proofs.Each.{Each-weaker}
-use Rattle.mesh_types.proofs.Refinement.{flat_map-none}
+use Rattle.mesh_types.proofs.ForCallers.{Each-passed, Each-weaker, flat_map-none}
 use Rattle.tet_slots.specs.declared.slot.Slot.{Slot}
 use Rattle.mesh_store.specs.Parts.{Parts, live_tets, mesh_in}
 use Rattle.mesh_store.specs.Sound.{IsSound}
-use Rattle.mesh_store.proofs.Killing.{tets-numbers}
+use Rattle.mesh_store.proofs.ForCallers.{tets-numbers}
 use Rattle.local_ops.specs.Attempts.{may_go}
 use Rattle.local_ops.specs.Foreseen.{IsAim, near_tets, pieces_of}
 use Rattle.local_ops.proofs.Killed.{may_go-is}

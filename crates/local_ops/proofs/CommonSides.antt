@@ -8,7 +8,7 @@ use Rattle.std.proofs.lemmas.Nat.Bits.{and_pow, bit_at_and, bit_at-lt, bit_at-ze
 use Rattle.grid.specs.declared.shapes.Point.{Point}
 use Rattle.grid.specs.Boxes.{Axis, along_x, along_y, along_z, Side, IsOn}
 use Rattle.grid.specs.SideBits.{bit_of, side_bits}
-use Rattle.grid.proofs.SideLemmas.{side_bits-IsOn}
+use Rattle.grid.proofs.ForCallers.{side_bits-IsOn}
 
 -- ---- bits
 set-one : (n k : ℕ) → IsBitSet n k ↔ (bit_at n k ≡ 1)

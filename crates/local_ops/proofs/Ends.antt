@@ -4,10 +4,7 @@ use Rattle.grid.specs.Simplices.{has}
 use Rattle.grid.specs.Meshes.{Mesh, IsWellFormed}
 use Rattle.mesh_types.specs.declared.tries.Try.TheVariants.{Split, Shift, Collapse, EdgeSwap}
 use Rattle.mesh_types.specs.Tries.{is_candidate, tets_at_edge, tets_at_point}
-use Rattle.mesh_types.proofs.Between.{Cornered}
-use Rattle.mesh_types.proofs.Candidates.{split_is, collapse_is, edge_swap_is, shift_is}
-use Rattle.mesh_types.proofs.Chosen.{found}
-use Rattle.mesh_types.proofs.Splits.{cornered_tets, edge_in}
+use Rattle.mesh_types.proofs.ForCallers.{Cornered, split_is, collapse_is, edge_swap_is, shift_is, found, cornered_tets, edge_in}
 
 ends_in : (m : Mesh) (u v : ℕ) → IsWellFormed m → 0 < tets_at_edge m.tets u v → (u < length m.points) × (v < length m.points)
 ends_in m u v f some =

@@ -6,13 +6,11 @@ use Rattle.std.proofs.lemmas.Int.{ints}
 use Rattle.std.specs.Prelude.{nat_eq}
 use Rattle.grid.specs.Simplices.{has, count, faces, is_rotation}
 use Rattle.mesh_types.specs.declared.tries.Try.TheVariants.{Split}
-use Rattle.mesh_types.proofs.Exchange.{count-append}
-use Rattle.mesh_types.proofs.FaceCorners.{no-face, count-one}
-use Rattle.mesh_types.proofs.Replaced.{has_first}
+use Rattle.mesh_types.proofs.ForCallers.{count-append, no-face, count-one, has_first}
 use Rattle.tet_slots.specs.declared.slot.Slot.{Slot}
 use Rattle.tet_slots.specs.Searches.{has_edge, numbers_of}
 use Rattle.mesh_store.specs.Parts.{live_tets}
-use Rattle.mesh_store.proofs.Killing.{tets-numbers}
+use Rattle.mesh_store.proofs.ForCallers.{tets-numbers}
 use Rattle.local_ops.specs.Apart.{shares_no_face, shares_three}
 use Rattle.local_ops.specs.Measures.{corners_at}
 use Rattle.local_ops.proofs.Killed.{may_go-is}

@@ -18,15 +18,10 @@ use Rattle.mesh_types.specs.declared.tries.Why.TheVariants as why
 use Rattle.mesh_types.specs.Journals.{setting}
 use Rattle.mesh_types.specs.Results.{Result, result_of}
 use Rattle.mesh_types.specs.Verdicts.{Setting, Passes, energy_at, largest}
-use Rattle.mesh_types.proofs.Between.{Cornered}
-use Rattle.mesh_types.proofs.Chosen.{Each-filter}
-use Rattle.mesh_types.proofs.Each.{Each-weaker}
-use Rattle.mesh_types.proofs.Covered.{longer_result}
-use Rattle.mesh_types.proofs.Exchange.{IsLonger}
-use Rattle.mesh_types.proofs.Splits.{cornered_tets}
+use Rattle.mesh_types.proofs.ForCallers.{Cornered, Each-filter, Each-weaker, longer_result, IsLonger, cornered_tets}
 use Rattle.mesh_store.specs.Parts.{Parts, live_tets, mesh_in}
 use Rattle.mesh_store.specs.Sound.{IsSound}
-use Rattle.mesh_store.proofs.MeshLemmas.{well_formed}
+use Rattle.mesh_store.proofs.ForCallers.{well_formed}
 use Rattle.tet_slots.specs.Searches.{numbers_of}
 use Rattle.local_ops.specs.Attempts.{may_go}
 use Rattle.local_ops.specs.Foreseen.{IsAim, are_lower, become_lower, become_positive, near_tets, pieces_of, points_with}

@@ -11,12 +11,10 @@ use Rattle.mesh_types.specs.declared.tries.Why.TheVariants as why
 use Rattle.mesh_types.specs.Journals.{setting}
 use Rattle.mesh_types.specs.Results.{Result, result_of}
 use Rattle.mesh_types.specs.Verdicts.{Setting, Passes, energy_at, largest, IsCovered}
-use Rattle.mesh_types.proofs.Among.{Among, among-all, among-Each, among-filter}
-use Rattle.mesh_types.proofs.Each.{Each-weaker, Each-both}
-use Rattle.mesh_types.proofs.Searches.{filter-among}
+use Rattle.mesh_types.proofs.ForCallers.{Among, among-all, among-Each, among-filter, Each-weaker, Each-both, filter-among}
 use Rattle.tet_slots.specs.Searches.{numbers_of}
 use Rattle.mesh_store.specs.Parts.{StoreView, live_tets, mesh_in}
-use Rattle.mesh_store.proofs.MeshLemmas.{well_formed}
+use Rattle.mesh_store.proofs.ForCallers.{well_formed}
 use Rattle.local_ops.specs.Attempts.{IsMade, start_of, may_go, pivot_of}
 use Rattle.local_ops.specs.Covering.{IsFine}
 use Rattle.local_ops.specs.Measures.{dead_tets, is_positive, has_single_faces}

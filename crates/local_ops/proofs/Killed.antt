@@ -6,7 +6,7 @@ use Rattle.int_algebra.proofs.Laws.{linear}
 use Rattle.grid.specs.Simplices.{has}
 use Rattle.mesh_types.specs.declared.tries.Try.{Try}
 use Rattle.mesh_types.specs.declared.tries.Try.TheVariants.{Split, Shift, Collapse, FaceSwap, EdgeSwap}
-use Rattle.mesh_types.proofs.Sums.{total}
+use Rattle.mesh_types.proofs.ForCallers.{total}
 use Rattle.tet_slots.specs.declared.slot.Slot.{Slot}
 use Rattle.tet_slots.specs.Slots.{slot_at}
 use Rattle.tet_slots.specs.Searches.{numbers_of}

@@ -1,34 +1,35 @@
-pub mod Attempted
-pub mod TrackedCounts
-pub mod Members
-pub mod Listed
-pub mod Corners
-pub mod FaceLists
-pub mod FaceCounts
-pub mod InOrder
-pub mod NewTets
-pub mod CommonSides
-pub mod Ends
-pub mod SurfaceTests
-pub mod RisingLists
-pub mod Neighbours
-pub mod SumsOfPoints
-pub mod Means
-pub mod NewPoints
-pub mod Changed
-pub mod Replacing
-pub mod Killed
-pub mod Largest
-pub mod Made
-pub mod Pivots
-pub mod Judged
-pub mod FirstStores
-pub mod Moved
-pub mod Becoming
-pub mod Lower
-pub mod Once
-pub mod Aims
-pub mod NearSlots
-pub mod Foreseen
-pub mod Swapped
-pub mod Worsened
+mod Attempted
+mod TrackedCounts
+mod Members
+mod Listed
+mod Corners
+mod FaceLists
+mod FaceCounts
+mod InOrder
+mod NewTets
+mod CommonSides
+mod Ends
+mod SurfaceTests
+mod RisingLists
+mod Neighbours
+mod SumsOfPoints
+mod Means
+mod NewPoints
+mod Changed
+mod Replacing
+mod Killed
+mod Largest
+mod Made
+mod Pivots
+mod Judged
+mod FirstStores
+mod Moved
+mod Becoming
+mod Lower
+mod Once
+mod Aims
+mod NearSlots
+mod Foreseen
+mod Swapped
+mod Worsened
+pub mod ForCallers

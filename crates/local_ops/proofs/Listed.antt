@@ -4,14 +4,14 @@ use Rattle.std.specs.List.{flat_map, filter}
 use Rattle.std.proofs.lemmas.Bool.{cases_Bool, and_parts, true≢false}
 use Rattle.std.proofs.lemmas.List.Sums.{sum_by-append}
 use Rattle.grid.specs.Simplices.{has, faces, count, is_rotation}
-use Rattle.grid.proofs.Members.{count_by-cons_yes, count_by-cons_no}
+use Rattle.grid.proofs.ForCallers.{count_by-cons_yes, count_by-cons_no}
 use Rattle.tet_slots.specs.declared.slot.Slot.{Slot}
 use Rattle.tet_slots.specs.Searches.{numbers_of, has_corner}
 use Rattle.tet_slots.specs.Slots.{slot_at}
 use Rattle.mesh_store.specs.Parts.{live_tets}
-use Rattle.mesh_store.proofs.Killing.{tets-numbers}
+use Rattle.mesh_store.proofs.ForCallers.{tets-numbers}
 use Rattle.mesh_types.specs.Tries.{tets_at_point, tets_at_edge}
-use Rattle.mesh_types.proofs.FaceCorners.{no-face}
+use Rattle.mesh_types.proofs.ForCallers.{no-face}
 
 -- ---- counts over what a weaker test leaves
 kept-by : {X : Type 0} (p q : X → Bool) (x : X) (xs ys : List X) → (p x ≡ true → q x ≡ true) → count_by p ys ≡ count_by p xs → (b : Bool) → q x ≡ b → count_by p (cond b (x ∷ ys) ys) ≡ count_by p (x ∷ xs)

@@ -7,12 +7,12 @@ use Rattle.grid.specs.Meshes.{Mesh}
 use Rattle.mesh_types.specs.declared.tries.Try.{Try}
 use Rattle.mesh_types.specs.Results.{Result, result_of}
 use Rattle.mesh_types.specs.Verdicts.{largest}
-use Rattle.mesh_types.proofs.Sums.{total}
+use Rattle.mesh_types.proofs.ForCallers.{total}
 use Rattle.tet_slots.specs.declared.slot.Slot.{Slot}
 use Rattle.tet_slots.specs.Slots.{slot_at, no_slot}
 use Rattle.tet_slots.specs.Searches.{numbers_of}
 use Rattle.mesh_store.specs.Parts.{StoreView, live_tets, mesh_in}
-use Rattle.mesh_store.proofs.LiveSlots.{live-append}
+use Rattle.mesh_store.proofs.ForCallers.{live-append}
 use Rattle.local_ops.specs.Attempts.{IsMade, start_of, may_go}
 use Rattle.local_ops.specs.Measures.{dead_tets}
 use Rattle.local_ops.proofs.Killed.{killed, follow-grown, sums-killed, dead-killed}

@@ -4,9 +4,7 @@ use Rattle.std.specs.List.{Contains, filter, list_any}
 use Rattle.std.specs.Str.{bytes_eq}
 use Rattle.std.proofs.lemmas.Bool.{or_cases, true≢false}
 use Rattle.std.proofs.lemmas.List.Elements.{All-contains, All-contains_itself, All-from_recursion, recursion_from_All}
-use Rattle.mesh_types.proofs.Among.{Among, among-all, among-Each}
-use Rattle.mesh_types.proofs.Searches.{any_among, filter-among}
-use Rattle.mesh_types.proofs.TripleSets.{equal_from, equal_to}
+use Rattle.mesh_types.proofs.ForCallers.{Among, among-all, among-Each, any_among, filter-among, equal_from, equal_to}
 
 pub contains-among : (xs : List (List ℕ)) (x : List ℕ) → Contains xs x → Among xs x
 contains-among xs x c = All-contains (Among xs) xs x (All-from_recursion (Among xs) xs (among-all xs)) c

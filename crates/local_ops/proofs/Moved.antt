@@ -7,11 +7,7 @@ use Rattle.grid.specs.Determinants.{point_at, det, det_at}
 use Rattle.grid.specs.Energy.{energy}
 use Rattle.grid.specs.Simplices.{has, put, replaced, IsTet}
 use Rattle.mesh_types.specs.Verdicts.{energy_at}
-use Rattle.mesh_types.proofs.Between.{Cornered}
-use Rattle.mesh_types.proofs.Borders.{second, third, fourth}
-use Rattle.mesh_types.proofs.Refinement.{cornered_of}
-use Rattle.mesh_types.proofs.Replaced.{has_first}
-use Rattle.mesh_types.proofs.Step.{point_at-append, point_at-new}
+use Rattle.mesh_types.proofs.ForCallers.{Cornered, second, third, fourth, cornered_of, has_first, point_at-append, point_at-new}
 use Rattle.local_ops.specs.Foreseen.{moved_at, det_with, energy_with}
 
 -- what is told of four points, where they agree below n

@@ -8,15 +8,12 @@ use Rattle.grid.specs.Determinants.{IsPositive}
 use Rattle.grid.specs.Meshes.{Mesh}
 use Rattle.mesh_types.specs.declared.tries.Try.{Try}
 use Rattle.mesh_types.specs.Journals.{AllPositive}
-use Rattle.mesh_types.proofs.Chosen.{Each-filter}
-use Rattle.mesh_types.proofs.Covered.{longer_result}
-use Rattle.mesh_types.proofs.Exchange.{IsLonger, positive-longer}
-use Rattle.mesh_types.proofs.Splits.{cornered_tets}
+use Rattle.mesh_types.proofs.ForCallers.{Each-filter, longer_result, IsLonger, positive-longer, cornered_tets}
 use Rattle.tet_slots.specs.declared.slot.Slot.{Slot}
 use Rattle.tet_slots.specs.Slots.{slot_at, no_slot}
 use Rattle.tet_slots.specs.Searches.{numbers_of}
 use Rattle.mesh_store.specs.Parts.{Parts, StoreView, live_tets, mesh_in}
-use Rattle.mesh_store.proofs.MeshLemmas.{well_formed}
+use Rattle.mesh_store.proofs.ForCallers.{well_formed}
 use Rattle.local_ops.specs.Attempts.{IsMade, start_of, may_go}
 use Rattle.local_ops.specs.Measures.{corners_at}
 use Rattle.local_ops.proofs.Aims.{near-is}

@@ -7,24 +7,16 @@ use Rattle.std.specs.Ordering.{nat_cmp}
 use Rattle.std.proofs.lemmas.Bool.{cases_Bool, cases_eq, and_parts, and_from, or_right, eqb-true, ltb-true, ltb-false, true≢false}
 use Rattle.std.proofs.lemmas.List.Elements.{All-from_recursion}
 use Rattle.std.proofs.lemmas.List.FromFn.{length-range_with_len}
-use Rattle.grid.proofs.Members.{count_by-cons_yes, count_by-cons_no}
+use Rattle.grid.proofs.ForCallers.{count_by-cons_yes, count_by-cons_no}
 use Rattle.grid.specs.Meshes.{Mesh, IsWellFormed}
 use Rattle.grid.specs.Simplices.{has}
 use Rattle.mesh_types.specs.Results.{neighbours}
 use Rattle.mesh_types.specs.Tries.{tets_at_edge, tets_at_point}
-use Rattle.mesh_types.proofs.Among.{Among, among-all}
-use Rattle.mesh_types.proofs.Between.{Cornered}
-use Rattle.mesh_types.proofs.Borders.{second}
-use Rattle.mesh_types.proofs.Chosen.{found}
-use Rattle.mesh_types.proofs.Each.{Each-both}
-use Rattle.mesh_types.proofs.Replaced.{has_first}
-use Rattle.mesh_types.proofs.Searches.{any_among}
-use Rattle.mesh_types.proofs.Rising.{rises_same}
-use Rattle.mesh_types.proofs.Splits.{cornered_tets}
+use Rattle.mesh_types.proofs.ForCallers.{Among, among-all, Cornered, second, found, Each-both, has_first, any_among, rises_same, cornered_tets}
 use Rattle.tet_slots.specs.declared.slot.Slot.{Slot}
 use Rattle.tet_slots.specs.Searches.{has_corner, numbers_of}
 use Rattle.mesh_store.specs.Parts.{live_tets}
-use Rattle.mesh_store.proofs.Killing.{tets-numbers}
+use Rattle.mesh_store.proofs.ForCallers.{tets-numbers}
 use Rattle.local_ops.specs.Measures.{corners_at}
 use Rattle.local_ops.specs.Smoothing.{corners_but}
 use Rattle.local_ops.proofs.RisingLists.{has-append, has-filter, has-IsPermutation, has-dedup, rises-dedup, rises-chosen, has-chosen}

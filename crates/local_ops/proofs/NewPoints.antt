@@ -9,7 +9,7 @@ use Rattle.grid.specs.Meshes.{Mesh}
 use Rattle.mesh_types.specs.declared.tries.Try.TheVariants.{Split, Shift}
 use Rattle.mesh_types.specs.Refines.{refine}
 use Rattle.mesh_types.specs.Results.{midpoint_floored, split, shift, target}
-use Rattle.mesh_types.proofs.Inside.{inside_law}
+use Rattle.mesh_types.proofs.ForCallers.{inside_law}
 
 last : (P : Point → Type 0) (points : List Point) (p : Point) → Each P (points ++ p ∷ []) → P p
 last P [] p h = h.0

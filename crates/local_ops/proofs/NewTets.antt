@@ -5,16 +5,13 @@ use Rattle.std.specs.List.{AllByRecursion as Each, list_all, list_any, flat_map}
 use Rattle.std.proofs.lemmas.Bool.{cases_Bool, and_from, and_parts, ltb-false, true≢false}
 use Rattle.std.proofs.lemmas.List.Elements.{recursion_from_All}
 use Rattle.int_algebra.proofs.Orders.{less_test}
-use Rattle.grid.proofs.Members.{count_by-cons_yes, count_by-cons_no}
-use Rattle.grid.proofs.Rotations.{equal3-refl}
+use Rattle.grid.proofs.ForCallers.{count_by-cons_yes, count_by-cons_no, equal3-refl}
 use Rattle.grid.specs.declared.shapes.Point.{Point}
 use Rattle.grid.specs.Determinants.{det_at, IsPositive}
 use Rattle.grid.specs.Simplices.{faces, all_faces, is_rotation, count}
 use Rattle.mesh_types.specs.Results.{Result}
 use Rattle.mesh_types.specs.Verdicts.{IsSingle}
-use Rattle.mesh_types.proofs.Among.{Among, among-flat}
-use Rattle.mesh_types.proofs.Rotated.{positive_test, single_test}
-use Rattle.mesh_types.proofs.Searches.{any_among}
+use Rattle.mesh_types.proofs.ForCallers.{Among, among-flat, positive_test, single_test, any_among}
 use Rattle.local_ops.specs.Measures.{is_positive, has_single_faces}
 
 -- ---- all of a list

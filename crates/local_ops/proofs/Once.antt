@@ -17,25 +17,7 @@ use Rattle.mesh_types.specs.Refines.{is_touched, sub_all, refine}
 use Rattle.mesh_types.specs.Results.{middle_cut, split, shift, collapse}
 use Rattle.mesh_types.specs.Tries.{is_candidate}
 use Rattle.mesh_types.specs.Verdicts.{IsSingle}
-use Rattle.mesh_types.proofs.Among.{Among, among-all, among-filter}
-use Rattle.mesh_types.proofs.Between.{Cornered}
-use Rattle.mesh_types.proofs.Candidates.{split_is}
-use Rattle.mesh_types.proofs.Chosen.{Each-passed, filter-parted, found}
-use Rattle.mesh_types.proofs.Counts.{IsReady, number, count-number, faces-old, total-at_most}
-use Rattle.mesh_types.proofs.Each.{Each-weaker, Each-both, Each-of_flat_map}
-use Rattle.mesh_types.proofs.Exchange.{count-same, count-append}
-use Rattle.mesh_types.proofs.FaceCorners.{count-one, no-face}
-use Rattle.mesh_types.proofs.Mapped.{total-map, all_faces-replaced, replaced_none}
-use Rattle.mesh_types.proofs.Refinement.{Each-map, flat_map-none}
-use Rattle.mesh_types.proofs.Replaced.{has_none, has_none_from, replaced-back}
-use Rattle.mesh_types.proofs.Rotated.{count-rotation}
-use Rattle.mesh_types.proofs.Same.{rotations}
-use Rattle.mesh_types.proofs.Searches.{filter-among}
-use Rattle.mesh_types.proofs.Splits.{cornered_tets}
-use Rattle.mesh_types.proofs.Step.{once-split}
-use Rattle.mesh_types.proofs.Sums.{bit, total}
-use Rattle.mesh_types.proofs.Transfer.{HaveSameSums, sums-parted}
-use Rattle.mesh_types.proofs.Twins.{twins-none}
+use Rattle.mesh_types.proofs.ForCallers.{Among, among-all, among-filter, Cornered, split_is, Each-passed, filter-parted, found, IsReady, number, count-number, faces-old, total-at_most, Each-weaker, Each-both, Each-of_flat_map, count-same, count-append, count-one, no-face, total-map, all_faces-replaced, replaced_none, Each-map, flat_map-none, has_none, has_none_from, replaced-back, count-rotation, rotations, filter-among, cornered_tets, once-split, bit, total, HaveSameSums, sums-parted, twins-none}
 use Rattle.local_ops.specs.Apart.{is_apart, is_apart_from, shares_no_face}
 use Rattle.local_ops.proofs.Ends.{split_ends}
 use Rattle.local_ops.proofs.NewTets.{true-at}

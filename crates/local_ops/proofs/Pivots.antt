@@ -11,14 +11,8 @@ use Rattle.mesh_types.specs.declared.tries.Try.TheVariants.{Split, Shift, Collap
 use Rattle.mesh_types.specs.Refines.{sub_all, refine}
 use Rattle.mesh_types.specs.Results.{middle_cut, split, target, shift, collapse, first_outside, is_across, swapped_at, swapped_across, swapped_from, face_swap, unhinged_at, unhinged, edge_swap, result_of}
 use Rattle.mesh_types.specs.Tracking.{in_order_once}
-use Rattle.mesh_types.proofs.Among.{Among, among-all}
-use Rattle.mesh_types.proofs.Chosen.{Each-filter}
-use Rattle.mesh_types.proofs.Each.{Each-weaker, Each-both, Each-of_flat_map}
-use Rattle.mesh_types.proofs.Mapped.{replaced_none}
-use Rattle.mesh_types.proofs.Refinement.{has-rising, flat_map-none, Each-map, Each-in_order}
-use Rattle.mesh_types.proofs.Replaced.{has-replaced_new}
-use Rattle.mesh_types.proofs.TripleSets.{Each-in_order_once}
-use Rattle.mesh_store.proofs.FacePieces.{rising-risen}
+use Rattle.mesh_types.proofs.ForCallers.{Among, among-all, Each-filter, Each-weaker, Each-both, Each-of_flat_map, replaced_none, has-rising, flat_map-none, Each-map, Each-in_order, has-replaced_new, Each-in_order_once}
+use Rattle.mesh_store.proofs.ForCallers.{rising-risen}
 use Rattle.local_ops.specs.Attempts.{pivot_of}
 
 -- t was tracked or has k

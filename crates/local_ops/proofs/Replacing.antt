@@ -11,15 +11,7 @@ use Rattle.mesh_types.specs.declared.tries.Try.{Try}
 use Rattle.mesh_types.specs.declared.tries.Try.TheVariants.{Split, Shift, Collapse, FaceSwap, EdgeSwap}
 use Rattle.mesh_types.specs.Refines.{is_touched, refine}
 use Rattle.mesh_types.specs.Results.{Result, unchanged, without, middle_cut, split, target, shift, collapse, has_face, as_in, first_outside, is_across, swapped_at, swapped_across, swapped_from, face_swap, unhinged_at, unhinged, edge_swap, result_of}
-use Rattle.mesh_types.proofs.Among.{Among}
-use Rattle.mesh_types.proofs.Chosen.{Each-passed}
-use Rattle.mesh_types.proofs.Each.{Each-weaker}
-use Rattle.mesh_types.proofs.FaceCorners.{has-corner}
-use Rattle.mesh_types.proofs.Pairs.{among-without, without-total}
-use Rattle.mesh_types.proofs.Replaced.{has_first}
-use Rattle.mesh_types.proofs.Borders.{second, third}
-use Rattle.mesh_types.proofs.Searches.{found_at}
-use Rattle.mesh_types.proofs.Sums.{total}
+use Rattle.mesh_types.proofs.ForCallers.{Among, Each-passed, Each-weaker, has-corner, among-without, without-total, has_first, second, third, found_at, total}
 
 -- the tetrahedron may be replaced by the try
 abbrev pub is_near : Try → List ℕ → Bool

@@ -10,7 +10,7 @@ use Rattle.std.proofs.lemmas.List.Kept.{AllPairs-from_increasing}
 use Rattle.std.proofs.lemmas.Map.Keys.{IsStrictlyIncreasing-dedup}
 use Rattle.std.proofs.lemmas.List.Sorted.{list_any-IsPermutation}
 use Rattle.grid.specs.Simplices.{has, Rises}
-use Rattle.mesh_types.proofs.Chosen.{Each-filter}
+use Rattle.mesh_types.proofs.ForCallers.{Each-filter}
 
 -- ---- members
 pub has-append : (x y : List ℕ) (c : ℕ) → has (x ++ y) c ≡ (has x c || has y c)

@@ -9,7 +9,7 @@ use Rattle.grid.specs.Meshes.{Mesh}
 use Rattle.grid.specs.Rims.{triples_at}
 use Rattle.grid.specs.Simplices.{has, replaced, rising}
 use Rattle.mesh_types.specs.Verdicts.{KeepsSurface}
-use Rattle.mesh_types.proofs.Among.{Among, among-filter}
+use Rattle.mesh_types.proofs.ForCallers.{Among, among-filter}
 use Rattle.local_ops.specs.Surface.{at_point, is_moved_apart}
 use Rattle.local_ops.proofs.Members.{contains-among, among-contains, listed-among, among-listed, filter-both}
 use Rattle.local_ops.proofs.NewTets.{all-true, true-at}

@@ -15,8 +15,7 @@ use Rattle.tet_slots.specs.Searches.{has_edge, numbers_of}
 use Rattle.mesh_store.specs.Exchanges.{has_either, tet_in}
 use Rattle.mesh_store.specs.Parts.{Parts, live_tets, tracked_in, mesh_in}
 use Rattle.mesh_store.specs.Sound.{IsSound}
-use Rattle.mesh_store.proofs.Finding.{IsFirst}
-use Rattle.mesh_store.proofs.SwapMeshes.{face-first, face-second, face-corners}
+use Rattle.mesh_store.proofs.ForCallers.{IsFirst, face-first, face-second, face-corners}
 use Rattle.local_ops.specs.Attempts.{PassesBelow}
 use Rattle.local_ops.specs.Measures.{is_positive}
 use Rattle.local_ops.specs.Swaps.{AreSides}

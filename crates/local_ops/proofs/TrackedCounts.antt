@@ -5,16 +5,15 @@ use Rattle.std.specs.Map.{keys_of}
 use Rattle.std.specs.Prelude.{count_by}
 use Rattle.std.specs.Str.{bytes_eq}
 use Rattle.std.proofs.lemmas.Bool.{cases_Bool, or_parts, true≢false}
-use Rattle.grid.proofs.Members.{count_by-cons_yes, count_by-cons_no}
+use Rattle.grid.proofs.ForCallers.{count_by-cons_yes, count_by-cons_no}
 use Rattle.grid.specs.Meshes.{is_below}
 use Rattle.grid.specs.Rims.{IsRim, triples_at}
 use Rattle.grid.specs.Simplices.{has}
 use Rattle.grid.specs.Views.{triples_of}
 use Rattle.mesh_types.specs.Tracking.{place, in_order_once}
-use Rattle.mesh_types.proofs.Order.{below_or}
-use Rattle.mesh_types.proofs.TripleSets.{is_among, differ_from, is_among-in_order_once}
+use Rattle.mesh_types.proofs.ForCallers.{below_or, is_among, differ_from, is_among-in_order_once}
 use Rattle.tracked.specs.Keys.{Keys, same_face, faces_in}
-use Rattle.tracked.proofs.PairLemmas.{in-distinct}
+use Rattle.tracked.proofs.ForCallers.{in-distinct}
 use Rattle.mesh_store.specs.Parts.{tracked_in}
 
 module _ (p : List ℕ → Bool) where

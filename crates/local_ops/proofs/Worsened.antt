@@ -15,15 +15,11 @@ use Rattle.mesh_types.specs.declared.tries.Why.TheVariants as why
 use Rattle.mesh_types.specs.Journals.{AllPositive, NoFaceTwice, setting}
 use Rattle.mesh_types.specs.Results.{Result, face_swap, without}
 use Rattle.mesh_types.specs.Verdicts.{IsBetter, IsSingle, IsVerdict, Setting, energy_at, largest}
-use Rattle.mesh_types.proofs.Among.{Among, among-all}
-use Rattle.mesh_types.proofs.Exchange.{count-append, count-same}
-use Rattle.mesh_types.proofs.FaceCorners.{count-one}
-use Rattle.mesh_types.proofs.Pairs.{among-without, without-total}
-use Rattle.mesh_types.proofs.Transfer.{HaveSameSums}
+use Rattle.mesh_types.proofs.ForCallers.{Among, among-all, count-append, count-same, count-one, among-without, without-total, HaveSameSums}
 use Rattle.mesh_store.specs.Exchanges.{tet_in}
 use Rattle.mesh_store.specs.Parts.{Parts, live_tets, mesh_in}
 use Rattle.mesh_store.specs.Sound.{IsSound}
-use Rattle.mesh_store.proofs.Finding.{outside-is}
+use Rattle.mesh_store.proofs.ForCallers.{outside-is}
 use Rattle.local_ops.specs.Attempts.{PassesBelow}
 use Rattle.local_ops.specs.Measures.{corners_at, has_single_faces, is_positive}
 use Rattle.local_ops.specs.Swaps.{AreSides, IsSeenWorse, has_new_once, is_face_of, is_new_once, three_of}

@@ -10,8 +10,7 @@ use Rattle.mesh_types.specs.Refines.{is_touched}
 use Rattle.tet_slots.specs.declared.slot.Slot.{Slot}
 use Rattle.tet_slots.specs.Slots.{slot_at}
 use Rattle.tet_slots.specs.Searches.{numbers_of, has_edge}
-use Rattle.tet_slots.proofs.FoundLemmas.{has-append}
-use Rattle.tet_slots.proofs.NumberLemmas.{has-numbers, numbers-found}
+use Rattle.tet_slots.proofs.ForCallers.{has-append, has-numbers, numbers-found}
 use Rattle.mesh_store.specs.Changes.{is_split}
 
 -- a live slot with both ends of one of the cuts

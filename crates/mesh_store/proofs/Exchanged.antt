@@ -4,12 +4,12 @@ use Rattle.std.specs.List.{AllByRecursion as Each}
 use Rattle.std.specs.Str.{bytes_eq}
 use Rattle.std.proofs.lemmas.Bool.{or_left, or_right}
 use Rattle.grid.specs.Views.{triples_of}
-use Rattle.mesh_types.proofs.TripleSets.{is_among, equal_to, is_among-in_order_once}
+use Rattle.mesh_types.proofs.ForCallers.{is_among, equal_to, is_among-in_order_once}
 use Rattle.tet_slots.specs.declared.slot.Slot.{Slot}
 use Rattle.tet_slots.specs.Slots.{with_live}
-use Rattle.tet_slots.proofs.SlotLemmas.{killed-length}
+use Rattle.tet_slots.proofs.ForCallers.{killed-length}
 use Rattle.tracked.specs.Keys.{is_in, faces_in}
-use Rattle.tracked.proofs.KeyFacts.{is_in-among}
+use Rattle.tracked.proofs.ForCallers.{is_in-among}
 use Rattle.mesh_store.specs.Parts.{Parts, tracked_in}
 use Rattle.mesh_store.specs.Sound.{IsSound}
 use Rattle.mesh_store.specs.Changes.{face_of, tets_made}

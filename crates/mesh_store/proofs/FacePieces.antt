@@ -8,7 +8,7 @@ use Rattle.grid.specs.Meshes.{IsTriple}
 use Rattle.grid.specs.Simplices.{rising, insert_number, Rises}
 use Rattle.mesh_types.specs.declared.cut.Cut.{Cut}
 use Rattle.mesh_types.specs.Refines.{sub_all, is_touched}
-use Rattle.mesh_types.proofs.Refinement.{sub_all-untouched}
+use Rattle.mesh_types.proofs.ForCallers.{sub_all-untouched}
 use Rattle.mesh_store.specs.Changes.{triple_pieces}
 
 -- ---- a triple that rises is its own rising triple

@@ -12,8 +12,7 @@ use Rattle.grid.specs.Simplices.{has}
 use Rattle.grid.specs.Views.{triples_of}
 use Rattle.mesh_types.specs.declared.cut.Cut.{Cut}
 use Rattle.mesh_types.specs.Refines.{is_touched}
-use Rattle.mesh_types.proofs.Chosen.{Each-filter}
-use Rattle.mesh_types.proofs.TripleSets.{is_among, equal_from, equal_to, ordered_same, in_order_once-Ordered, is_among-in_order_once}
+use Rattle.mesh_types.proofs.ForCallers.{Each-filter, is_among, equal_from, equal_to, ordered_same, in_order_once-Ordered, is_among-in_order_once}
 use Rattle.tracked.specs.Keys.{Keys, faces_at, faces_in}
 use Rattle.mesh_store.specs.Changes.{face_of}
 use Rattle.mesh_store.specs.Parts.{tracked_in}

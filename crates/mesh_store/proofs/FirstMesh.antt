@@ -15,11 +15,10 @@ use Rattle.grid.specs.Views.{corners_of, triples_of}
 use Rattle.mesh_types.specs.declared.lists.Lists.{Lists}
 use Rattle.mesh_types.specs.Tracking.{in_order_once}
 use Rattle.mesh_types.specs.Views.{mesh_of}
-use Rattle.mesh_types.proofs.Order.{below_not}
-use Rattle.mesh_types.proofs.TripleSets.{in_order_once-of}
+use Rattle.mesh_types.proofs.ForCallers.{below_not, in_order_once-of}
 use Rattle.tet_slots.specs.declared.slot.Slot.{Slot}
 use Rattle.tracked.specs.Keys.{Keys, same_face, state_of, put, faces_in}
-use Rattle.tracked.proofs.KeyLemmas.{put-new}
+use Rattle.tracked.proofs.ForCallers.{put-new}
 use Rattle.mesh_store.specs.Parts.{live_slot, mesh_in, parts_from}
 use Rattle.mesh_store.specs.Sound.{IsSound, IsFirstMesh}
 use Rattle.mesh_store.proofs.LiveSlots.{live-made}

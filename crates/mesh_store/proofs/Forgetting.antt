@@ -9,7 +9,7 @@ use Rattle.grid.specs.declared.shapes.Point.{Point}
 use Rattle.grid.specs.declared.shapes.Tet.{Tet}
 use Rattle.tet_slots.specs.declared.slot.Slot.{Slot}
 use Rattle.tet_slots.specs.Slots.{SlotLists, is_forgotten, slot_at, with_live, no_slot}
-use Rattle.tet_slots.proofs.SlotLemmas.{killed-dead, killed-length}
+use Rattle.tet_slots.proofs.ForCallers.{killed-dead, killed-length}
 use Rattle.mesh_store.specs.Undoing.{track_marks}
 use Rattle.mesh_store.specs.Forgetting.{kill_of, kills, slots_undone, slots_forgotten, CanRevive, CanForget, IsForgettable, IsForgetting}
 use Rattle.mesh_store.proofs.Killing.{dead-at}

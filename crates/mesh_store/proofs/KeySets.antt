@@ -8,8 +8,8 @@ use Rattle.std.proofs.lemmas.List.Sorted.{list_any-IsPermutation}
 use Rattle.grid.specs.declared.shapes.Face.{Face}
 use Rattle.grid.specs.Meshes.{IsTriple, Ordered}
 use Rattle.grid.specs.Views.{triples_of}
-use Rattle.tracked.proofs.KeyFacts.{same-equal}
-use Rattle.mesh_types.proofs.TripleSets.{is_among, ordered_same, in_order_once-Ordered, is_among-in_order_once, Each-in_order_once}
+use Rattle.tracked.proofs.ForCallers.{same-equal}
+use Rattle.mesh_types.proofs.ForCallers.{is_among, ordered_same, in_order_once-Ordered, is_among-in_order_once, Each-in_order_once}
 use Rattle.tracked.specs.Keys.{Keys, same_face, state_of, is_in, put, faces_in}
 use Rattle.mesh_store.specs.Parts.{Parts, tracked_in}
 use Rattle.mesh_store.specs.Changes.{face_of, face_put, all_put}

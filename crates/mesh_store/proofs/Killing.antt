@@ -5,7 +5,7 @@ use Rattle.std.proofs.lemmas.List.{get_or_at, set_at, get_or-set_same, get_or-se
 use Rattle.tet_slots.specs.declared.slot.Slot.{Slot}
 use Rattle.tet_slots.specs.Slots.{slot_at, with_live, no_slot}
 use Rattle.tet_slots.specs.Searches.{numbers_of}
-use Rattle.tet_slots.proofs.SlotLemmas.{killed-dead, killed-length}
+use Rattle.tet_slots.proofs.ForCallers.{killed-dead, killed-length}
 use Rattle.mesh_store.specs.Parts.{Parts, live_slot, live_tets}
 use Rattle.mesh_store.specs.Changes.{HasSameSlots, IsGrown, face_put, face_of, killed_if}
 use Rattle.mesh_store.specs.Exchanges.{all_killed, CanKill, all_taken, exchanged}

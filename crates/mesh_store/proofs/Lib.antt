@@ -1,22 +1,23 @@
-pub mod UndoLemmas
-pub mod SoundLemmas
-pub mod KeySets
-pub mod FacePieces
-pub mod PieceLemmas
-pub mod FirstMesh
-pub mod LiveSlots
-pub mod MeshLemmas
-pub mod Killing
-pub mod Forgetting
-pub mod Steps
-pub mod Added
-pub mod Moves
-pub mod Exchanged
-pub mod MovePlans
-pub mod MoveMeshes
-pub mod Splits
-pub mod AtEdges
-pub mod FaceSearches
-pub mod Listings
-pub mod Finding
-pub mod SwapMeshes
+mod UndoLemmas
+mod SoundLemmas
+mod KeySets
+mod FacePieces
+mod PieceLemmas
+mod FirstMesh
+mod LiveSlots
+mod MeshLemmas
+mod Killing
+mod Forgetting
+mod Steps
+mod Added
+mod Moves
+mod Exchanged
+mod MovePlans
+mod MoveMeshes
+mod Splits
+mod AtEdges
+mod FaceSearches
+mod Listings
+mod Finding
+mod SwapMeshes
+pub mod ForCallers

@@ -13,12 +13,11 @@ use Rattle.mesh_types.specs.declared.cut.Cut.{Cut}
 use Rattle.mesh_types.specs.CutLists.{AreCuts}
 use Rattle.mesh_types.specs.Refines.{in_order, refine}
 use Rattle.mesh_types.specs.Tracking.{in_order_once, with_tracked}
-use Rattle.mesh_types.proofs.TripleSets.{is_among, ordered_same, in_order_once-Ordered, is_among-in_order_once, is_among-in_order}
-use Rattle.mesh_types.proofs.WellFormed.{refine-well_formed}
+use Rattle.mesh_types.proofs.ForCallers.{is_among, ordered_same, in_order_once-Ordered, is_among-in_order_once, is_among-in_order, refine-well_formed}
 use Rattle.tet_slots.specs.declared.slot.Slot.{Slot}
 use Rattle.tet_slots.specs.Slots.{slot_at}
 use Rattle.tracked.specs.Keys.{faces_in}
-use Rattle.tracked.proofs.KeyFacts.{is_in-among}
+use Rattle.tracked.proofs.ForCallers.{is_in-among}
 use Rattle.mesh_store.specs.Parts.{Parts, live_tets, tracked_in, mesh_in}
 use Rattle.mesh_store.specs.Sound.{IsSound}
 use Rattle.mesh_store.specs.Changes.{HasSameSlots, IsGrown, IsRefined, all_put, face_of, face_put, slots_split, triple_pieces}

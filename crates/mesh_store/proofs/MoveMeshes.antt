@@ -11,11 +11,9 @@ use Rattle.grid.specs.Views.{triples_of}
 use Rattle.grid.specs.Limits.{most_points, most_made}
 use Rattle.mesh_types.specs.Results.{shift, collapse}
 use Rattle.mesh_types.specs.Tracking.{in_order_once}
-use Rattle.mesh_types.proofs.Each.{Each-weaker}
-use Rattle.mesh_types.proofs.TripleSets.{ordered_same, in_order_once-Ordered, is_among-in_order_once}
-use Rattle.mesh_types.proofs.WellFormed.{below_each}
+use Rattle.mesh_types.proofs.ForCallers.{Each-weaker, ordered_same, in_order_once-Ordered, is_among-in_order_once, below_each}
 use Rattle.tet_slots.specs.declared.slot.Slot.{Slot}
-use Rattle.tet_slots.proofs.SlotLemmas.{IsTet-unused}
+use Rattle.tet_slots.proofs.ForCallers.{IsTet-unused}
 use Rattle.tracked.specs.Keys.{faces_in}
 use Rattle.mesh_store.specs.Parts.{Parts, live_slot, live_tets, tracked_in, mesh_in}
 use Rattle.mesh_store.specs.Sound.{IsSound}

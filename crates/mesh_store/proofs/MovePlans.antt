@@ -5,8 +5,7 @@ use Rattle.std.proofs.lemmas.List.Elements.{All-from_recursion, recursion_from_A
 use Rattle.grid.specs.Meshes.{IsTriple}
 use Rattle.grid.specs.Simplices.{IsTet, has, rising}
 use Rattle.grid.specs.Views.{triples_of}
-use Rattle.mesh_types.proofs.Chosen.{Each-filter}
-use Rattle.mesh_types.proofs.TripleSets.{is_among, in_order_once-Ordered}
+use Rattle.mesh_types.proofs.ForCallers.{Each-filter, is_among, in_order_once-Ordered}
 use Rattle.tet_slots.specs.declared.slot.Slot.{Slot}
 use Rattle.tet_slots.specs.Searches.{numbers_of, has_corner}
 use Rattle.tracked.specs.Keys.{faces_in}

@@ -6,12 +6,7 @@ use Rattle.std.proofs.lemmas.Bool.{cases_Bool, and_parts, not-true}
 use mathlib.Core.Bool.{or_assoc}
 use Rattle.grid.specs.Meshes.{IsTriple, Ordered, is_below}
 use Rattle.grid.specs.Simplices.{IsTet, has, replaced, rising}
-use Rattle.mesh_types.proofs.Kept.{IsTet-from}
-use Rattle.mesh_types.proofs.Mapped.{replaced_none}
-use Rattle.mesh_types.proofs.Puts.{cornered-put, triple-put}
-use Rattle.mesh_types.proofs.Refinement.{cornered_of}
-use Rattle.mesh_types.proofs.TripleSets.{is_among, equal_from}
-use Rattle.mesh_types.proofs.WellFormed.{triple_of, rising-IsTriple}
+use Rattle.mesh_types.proofs.ForCallers.{IsTet-from, replaced_none, cornered-put, triple-put, cornered_of, is_among, equal_from, triple_of, rising-IsTriple}
 use Rattle.tracked.specs.Keys.{Keys, is_in, put}
 use Rattle.mesh_store.specs.Parts.{Parts}
 use Rattle.mesh_store.specs.Changes.{face_of, face_put}

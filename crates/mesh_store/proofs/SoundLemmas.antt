@@ -10,9 +10,9 @@ use Rattle.grid.specs.Simplices.{IsTet}
 use Rattle.grid.specs.Limits.{most_points, most_made}
 use Rattle.tet_slots.specs.declared.slot.Slot.{Slot}
 use Rattle.tet_slots.specs.Slots.{slot_at, no_slot}
-use Rattle.tet_slots.proofs.SlotLemmas.{killed-length}
+use Rattle.tet_slots.proofs.ForCallers.{killed-length}
 use Rattle.tracked.specs.Keys.{state_of}
-use Rattle.tracked.proofs.KeyFacts.{All-put, All-key, distinct-put}
+use Rattle.tracked.proofs.ForCallers.{All-put, All-key, distinct-put}
 use Rattle.mesh_store.specs.Parts.{Parts, live_slot}
 use Rattle.mesh_store.specs.Sound.{IsSound}
 use Rattle.mesh_store.specs.Changes.{point_made, tet_made, slot_killed, face_put}

@@ -8,10 +8,10 @@ use Rattle.undo_record.specs.declared.mark.Mark.{Mark}
 use Rattle.undo_record.specs.declared.mark.Mark.TheVariants.{PointMade, TetMade, Killed, FaceNew, FaceIn, FaceOut}
 use Rattle.tet_slots.specs.declared.slot.Slot.{Slot}
 use Rattle.tet_slots.specs.Slots.{slot_at, IsUnused}
-use Rattle.tet_slots.proofs.SlotLemmas.{revived, killed-dead, killed-length}
+use Rattle.tet_slots.proofs.ForCallers.{revived, killed-dead, killed-length}
 use Rattle.tracked.specs.Keys.{Keys, state_of, added_for}
 use Rattle.tracked.specs.declared.table.Added.TheVariants.{Restored, New}
-use Rattle.tracked.proofs.KeyLemmas.{put-same, put-back, state-put, put-new}
+use Rattle.tracked.proofs.ForCallers.{put-same, put-back, state-put, put-new}
 use Rattle.mesh_store.specs.Parts.{Parts, live_slot}
 use Rattle.mesh_store.specs.Sound.{IsSound}
 use Rattle.mesh_store.specs.Changes.{with_parts, point_made, tet_made, slot_killed, face_put}

@@ -8,12 +8,7 @@ use Rattle.grid.specs.Meshes.{Mesh, IsWithinLimits}
 use Rattle.grid.specs.Simplices.{IsTet, has, replaced}
 use Rattle.grid.specs.Limits.{most_made}
 use Rattle.mesh_types.specs.Results.{edge_swap, face_swap, first_outside, has_face, is_across, without}
-use Rattle.mesh_types.proofs.Each.{Each-weaker}
-use Rattle.mesh_types.proofs.Kept.{IsTet-from}
-use Rattle.mesh_types.proofs.Puts.{cornered-put}
-use Rattle.mesh_types.proofs.Refinement.{cornered_of}
-use Rattle.mesh_types.proofs.Replaced.{has_first}
-use Rattle.mesh_types.proofs.WellFormed.{below_each}
+use Rattle.mesh_types.proofs.ForCallers.{Each-weaker, IsTet-from, cornered-put, cornered_of, has_first, below_each}
 use Rattle.tet_slots.specs.declared.slot.Slot.{Slot}
 use Rattle.tet_slots.specs.Slots.{no_slot}
 use Rattle.tet_slots.specs.Searches.{numbers_of, has_edge}

@@ -1,78 +1,79 @@
 -- sums over lists, and the corners of simplices
-pub mod Sums
-pub mod Each
-pub mod Replaced
-pub mod Same
-pub mod Rising
+mod Sums
+mod Each
+mod Replaced
+mod Same
+mod Rising
 -- the split of one edge
-pub mod Pieces
-pub mod Opened
-pub mod Between
-pub mod Counts
-pub mod Cones
-pub mod Odd
-pub mod Pairing
-pub mod Volume
-pub mod Tracked
-pub mod Step
-pub mod Woven
-pub mod OneEdge
+mod Pieces
+mod Opened
+mod Between
+mod Counts
+mod Cones
+mod Odd
+mod Pairing
+mod Volume
+mod Tracked
+mod Step
+mod Woven
+mod OneEdge
 -- refinement
-pub mod Transfer
-pub mod Refinement
-pub mod Kept
-pub mod Order
-pub mod Found
-pub mod WellFormed
-pub mod TripleSets
-pub mod Weaving
+mod Transfer
+mod Refinement
+mod Kept
+mod Order
+mod Found
+mod WellFormed
+mod TripleSets
+mod Weaving
 -- a mesh that tiles weaves
-pub mod Turned
-pub mod Twins
+mod Turned
+mod Twins
 -- one law for all exchanges of tetrahedra
-pub mod Borders
-pub mod Among
-pub mod Exchange
-pub mod Chosen
-pub mod Searches
-pub mod Seen
-pub mod Holders
-pub mod FaceCorners
-pub mod Mapped
-pub mod Joins
-pub mod Puts
-pub mod Rotated
+mod Borders
+mod Among
+mod Exchange
+mod Chosen
+mod Searches
+mod Seen
+mod Holders
+mod FaceCorners
+mod Mapped
+mod Joins
+mod Puts
+mod Rotated
 -- the laws of tries, kind by kind
-pub mod Candidates
-pub mod Halves
-pub mod Splits
-pub mod InteriorFaces
-pub mod Shifts
-pub mod Collapses
-pub mod Pairs
-pub mod FaceSwaps
-pub mod Rings
-pub mod EdgeSwaps
-pub mod TriesLaw
-pub mod OneVerdict
-pub mod Covered
-pub mod Inside
-pub mod SumsInTurn
-pub mod Exchanged
-pub mod Gone
-pub mod StaysSound
+mod Candidates
+mod Halves
+mod Splits
+mod InteriorFaces
+mod Shifts
+mod Collapses
+mod Pairs
+mod FaceSwaps
+mod Rings
+mod EdgeSwaps
+mod TriesLaw
+mod OneVerdict
+mod Covered
+mod Inside
+mod SumsInTurn
+mod Exchanged
+mod Gone
+mod StaysSound
 -- the order of tries, and journals
-pub mod TryOrder
-pub mod OneJournal
-pub mod CandidateExample
-pub mod JournalExample
+mod TryOrder
+mod OneJournal
+mod CandidateExample
+mod JournalExample
 -- the laws of stars
-pub mod Stars
+mod Stars
 -- everything is outside where nothing is tracked
-pub mod Outside
+mod Outside
 -- the hull of three near points
-pub mod WeightedMeans
+mod WeightedMeans
 -- the definitions at one cube
-pub mod Example
-pub mod TryExamples
-pub mod OneOutcome
+mod Example
+mod TryExamples
+mod OneOutcome
+pub mod ForCallers

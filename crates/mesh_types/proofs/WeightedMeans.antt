@@ -7,8 +7,7 @@ use Rattle.int_algebra.proofs.Corners.{less as less_, dot as dot_}
 use Rattle.grid.specs.declared.shapes.Point.{Point}
 use Rattle.grid.specs.Vectors.{Vector, dot, sum_of_three}
 use Rattle.grid.specs.Boxes.{corner_of}
-use Rattle.grid.proofs.VectorExpressions.{coordinates_then, scaled_, plus_, length_, squares_, x_, y_, z_, at_, zero_}
-use Rattle.grid.proofs.Gaps.{weighted_gap, sq_gap-weighted_gap, gap_of_near, square_is, squares_are, product-Positive}
+use Rattle.grid.proofs.ForCallers.{coordinates_then, scaled_, plus_, length_, squares_, x_, y_, z_, at_, zero_, weighted_gap, sq_gap-weighted_gap, gap_of_near, square_is, squares_are, product-Positive}
 use Rattle.mesh_types.specs.Hull.{weighted_sum, HullLaw}
 
 -- the product of two vectors is at most that of their bounds

@@ -16,7 +16,7 @@ use Rattle.mesh_types.specs.Verdicts.{Setting, IsCovered}
 use Rattle.mesh_types.specs.Views.{mesh_of}
 use Rattle.mesh_store.specs.Parts.{Parts, mesh_in}
 use Rattle.mesh_store.specs.Sound.{IsSound}
-use Rattle.mesh_store.proofs.MeshLemmas.{well_formed, within}
+use Rattle.mesh_store.proofs.ForCallers.{well_formed, within}
 use Rattle.soup.specs.declared.raw.Soup.{Soup}
 use Rattle.mesher.specs.declared.meshed.Meshed.{Meshed}
 use Rattle.mesher.specs.Meshed.{HasItsCertificate, AreCoverings, IsMeshed, IsPart, IsSecondOrNone}

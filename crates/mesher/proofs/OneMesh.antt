@@ -5,7 +5,7 @@ use Rattle.std.proofs.Math.Path.{transport}
 use Rattle.grid.specs.declared.shapes.Point.{Point}
 use Rattle.grid.specs.declared.shapes.Tri.{Tri}
 use Rattle.grid.specs.Meshes.{Mesh}
-use Rattle.cover.proofs.One.{certificate_law}
+use Rattle.cover.proofs.ForCallers.{certificate_law}
 use Rattle.mesh_types.specs.declared.outcome.Again.{Again}
 use Rattle.mesh_types.specs.declared.outcome.Outcome.{Outcome}
 use Rattle.mesh_types.specs.declared.tries.End.{End}
@@ -16,8 +16,7 @@ use Rattle.mesh_types.specs.Lattice.{lattice}
 use Rattle.mesh_types.specs.Turns.{rolled_back}
 use Rattle.mesh_types.specs.Verdicts.{Setting, face_at}
 use Rattle.mesh_types.specs.Views.{mesh_of}
-use Rattle.mesh_types.proofs.OneJournal.{one-journal}
-use Rattle.mesh_types.proofs.OneOutcome.{turns_law}
+use Rattle.mesh_types.proofs.ForCallers.{one-journal, turns_law}
 use Rattle.insertion.specs.InTurn.{outcomes_of, triangles_of}
 use Rattle.report_text.specs.declared.report.Covering.{Covering}
 use Rattle.report_text.specs.declared.report.Second.{Second}

@@ -6,8 +6,7 @@ use Rattle.std.proofs.lemmas.List.{at_drop_more}
 use Rattle.grid.specs.Simplices.{has, sub}
 use Rattle.mesh_types.specs.declared.cut.Cut.{Cut}
 use Rattle.mesh_types.specs.Refines.{sub_all}
-use Rattle.mesh_types.proofs.Pieces.{sub-untouched}
-use Rattle.mesh_types.proofs.Refinement.{flat_map-flat_map}
+use Rattle.mesh_types.proofs.ForCallers.{sub-untouched, flat_map-flat_map}
 
 -- where none has the edge, all stay
 pub flat_map-sub-none : (u v k : ℕ) (xs : List (List ℕ)) → list_any (λ x. has x u && has x v) xs ≡ false → flat_map (sub u v k) xs ≡ xs

@@ -16,8 +16,7 @@ use Rattle.grid.specs.Envelopes.{triangle_at}
 use Rattle.mesh_types.specs.Insertion.{NamesFirst, Has, IsFirstDefect, IsInsertion}
 use Rattle.mesh_types.specs.Tracking.{with_tracked}
 use Rattle.mesh_types.specs.Views.{mesh_of}
-use Rattle.cutting_rule.proofs.SectionTriples.{code-all, lower, section-triples}
-use Rattle.cutting_rule.proofs.Untils.{until-well_formed, until-points}
+use Rattle.cutting_rule.proofs.ForCallers.{code-all, lower, section-triples, until-well_formed, until-points}
 use Rattle.std.proofs.lemmas.List.Elements.{recursion_from_All}
 use Rattle.plain_ops.specs.declared.inserting.PlainInsert.{PlainInsert}
 use Rattle.plain_ops.specs.CutMeshes.{IsCutFrom, IsJudged}

@@ -11,13 +11,7 @@ use Rattle.mesh_types.specs.declared.tries.Try.TheVariants.{Split, Shift, Collap
 use Rattle.mesh_types.specs.Refines.{is_touched}
 use Rattle.mesh_types.specs.Results.{middle_cut, split, target, shift, collapse, has_face, first_outside, is_across, swapped_at, swapped_across, swapped_from, face_swap, unhinged_at, unhinged, edge_swap, result_of}
 use Rattle.mesh_types.specs.Journals.{AllPositive}
-use Rattle.mesh_types.proofs.Among.{Among, among-Each}
-use Rattle.mesh_types.proofs.Between.{Cornered}
-use Rattle.mesh_types.proofs.Chosen.{Each-filter}
-use Rattle.mesh_types.proofs.Covered.{longer_result}
-use Rattle.mesh_types.proofs.Exchange.{positive-longer}
-use Rattle.mesh_types.proofs.Searches.{found_at}
-use Rattle.mesh_types.proofs.Splits.{cornered_tets}
+use Rattle.mesh_types.proofs.ForCallers.{Among, among-Each, Cornered, Each-filter, longer_result, positive-longer, found_at, cornered_tets}
 
 module _ (m : Mesh) (P : List ℕ → Type 0) (h : Each P m.tets) where
   by_split : (u v : ℕ) → Each P (split m u v).gone

@@ -2,7 +2,7 @@
 use Rattle.std.proofs.Common.{ℕ, ◌+◌, ◌*◌, ◌/◌, ◌<◌, ℤ, ◌+ℤ◌, ◌*ℤ◌, pos, sym, subst}
 use Rattle.std.specs.Int.{int_div_euclid}
 use Rattle.grid.specs.Boxes.{IsUpTo}
-use Rattle.mesh_types.proofs.Inside.{nat_of, IsUpTo-pos, rounded}
+use Rattle.mesh_types.proofs.ForCallers.{nat_of, IsUpTo-pos, rounded}
 
 pub mean-in : (l n : ℕ) (sum : ℤ) → 0 < n → IsUpTo (l * n) sum → IsUpTo l (int_div_euclid (pos 2 *ℤ sum +ℤ pos n) (pos (2 * n)))
 mean-in l n sum some h =

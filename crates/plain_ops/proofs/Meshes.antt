@@ -20,7 +20,7 @@ use Rattle.mesh_types.specs.Refines.{refine}
 use Rattle.mesh_types.specs.Tracking.{in_order_once, place}
 use Rattle.mesh_types.specs.CuttingRule.{is_wanted}
 use Rattle.mesh_types.specs.Views.{mesh_of}
-use Rattle.cutting_rule.proofs.PhaseCuts.{wanted_cuts-in}
+use Rattle.cutting_rule.proofs.ForCallers.{wanted_cuts-in}
 
 -- ---- tetrahedra of the code
 each-tet : (P : List ℕ → Type 0) (ts : List Tet) → Each P (corners_of ts) → Each (λ (x : Tet). P x.0) ts

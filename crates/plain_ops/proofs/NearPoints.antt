@@ -10,13 +10,7 @@ use Rattle.grid.specs.Meshes.{Mesh, IsWellFormed}
 use Rattle.grid.specs.Simplices.{has}
 use Rattle.mesh_types.specs.Results.{neighbours}
 use Rattle.mesh_types.specs.Tries.{tets_at_edge, tets_at_point}
-use Rattle.mesh_types.proofs.Among.{Among, among-all}
-use Rattle.mesh_types.proofs.Between.{Cornered}
-use Rattle.mesh_types.proofs.Borders.{second}
-use Rattle.mesh_types.proofs.Chosen.{found}
-use Rattle.mesh_types.proofs.Each.{Each-both}
-use Rattle.mesh_types.proofs.Replaced.{has_first}
-use Rattle.mesh_types.proofs.Splits.{cornered_tets}
+use Rattle.mesh_types.proofs.ForCallers.{Among, among-all, Cornered, second, found, Each-both, has_first, cornered_tets}
 use Rattle.plain_ops.specs.Targets.{is_neighbour}
 use Rattle.plain_ops.proofs.SingleFaces.{counted-at}
 

@@ -18,7 +18,7 @@ use Rattle.mesh_types.specs.Refines.{refine}
 use Rattle.mesh_types.specs.Results.{split}
 use Rattle.mesh_types.specs.Tries.{is_candidate}
 use Rattle.mesh_types.specs.Views.{mesh_of}
-use Rattle.mesh_types.proofs.Rotated.{positive_test}
+use Rattle.mesh_types.proofs.ForCallers.{positive_test}
 
 four : (n a b c d : ℕ) → has (b ∷ c ∷ d ∷ []) a ≡ false → has (c ∷ d ∷ []) b ≡ false → has (d ∷ []) c ≡ false → (nat_lt a n && (nat_lt b n && (nat_lt c n && nat_lt d n))) ≡ true
     → IsTet n (a ∷ b ∷ c ∷ d ∷ [])

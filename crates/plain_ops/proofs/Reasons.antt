@@ -6,7 +6,7 @@ use Rattle.mesh_types.specs.declared.tries.Try.{Try}
 use Rattle.mesh_types.specs.declared.tries.Why.{Why}
 use Rattle.mesh_types.specs.declared.tries.Why.TheVariants as why
 use Rattle.mesh_types.specs.Verdicts.{Setting, Passes, place_in_order}
-use Rattle.mesh_types.proofs.OneVerdict.{why_at, at_place}
+use Rattle.mesh_types.proofs.ForCallers.{why_at, at_place}
 
 module _ (s : Setting) (m : Mesh) (t : Try) where
   -- the tests before a place are passed

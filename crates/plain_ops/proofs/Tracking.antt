@@ -5,7 +5,7 @@ use Rattle.std.specs.Str.{bytes_eq}
 use Rattle.std.proofs.lemmas.Bool.{cases_Bool, or_left, or_right, true≢false}
 use Rattle.grid.specs.declared.shapes.Face.{Face}
 use Rattle.grid.specs.Views.{triples_of}
-use Rattle.mesh_types.proofs.TripleSets.{equal_to, equal_from}
+use Rattle.mesh_types.proofs.ForCallers.{equal_to, equal_from}
 
 pub Contains-from_among : (fs : List Face) (x : List ℕ) → list_any (λ (f : Face). bytes_eq f.0 x) fs ≡ true → Contains (triples_of fs) x
 Contains-from_among [] x e = absurd (true≢false (sym e))

@@ -1,4 +1,5 @@
-pub mod MeanLemmas
-pub mod PlaneLemmas
-pub mod SideLemmas
-pub mod Signs
+mod MeanLemmas
+mod PlaneLemmas
+mod SideLemmas
+mod Signs
+pub mod ForCallers

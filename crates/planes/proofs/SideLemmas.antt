@@ -14,7 +14,7 @@ use Rattle.grid.specs.declared.shapes.Tri.{Tri}
 use Rattle.grid.specs.Vectors.{Vector, no_vector, difference, dot, cross, opposite}
 use Rattle.grid.specs.Planes.{largest_axis, unit_of, normal_of, IsDegenerate, side_across, side_plane, value_of}
 use Rattle.grid.specs.Boxes.{along_x, along_y, along_z, corner_of}
-use Rattle.grid.proofs.VectorExpressions.{coordinates_then}
+use Rattle.grid.proofs.ForCallers.{coordinates_then}
 use Rattle.planes.specs.Sides.{turned, side_of}
 
 -- the product of three vectors changes its sign where two are swapped

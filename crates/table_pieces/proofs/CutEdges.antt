@@ -8,7 +8,7 @@ use Rattle.grid.specs.Meshes.{is_below, Ordered}
 use Rattle.mesh_types.specs.declared.cut.Cut.{Cut}
 use Rattle.mesh_types.specs.CutLists.{IsCut, AreCuts, ends_of}
 use Rattle.mesh_types.specs.Refines.{sub_all}
-use Rattle.mesh_types.proofs.Order.{below_cases}
+use Rattle.mesh_types.proofs.ForCallers.{below_cases}
 use Rattle.cut_tables.specs.Cutting.{RankEdge, pieces_of, split_in_turn}
 use Rattle.table_pieces.specs.Labels.{arranged, numbered}
 use Rattle.table_pieces.proofs.Untouched.{IsNumbered}

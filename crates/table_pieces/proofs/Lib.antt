@@ -1,12 +1,12 @@
-pub mod Renaming
-pub mod Places
-pub mod Untouched
-pub mod Tetrahedra
-pub mod ByEdge
-pub mod Lookups
-pub mod CutEdges
-pub mod Searches
-pub mod Masks
-pub mod Ranks
-pub mod Names
-pub mod Rows
+mod Renaming
+mod Places
+mod Untouched
+mod Tetrahedra
+mod ByEdge
+mod Lookups
+mod CutEdges
+mod Searches
+mod Masks
+mod Ranks
+mod Names
+mod Rows

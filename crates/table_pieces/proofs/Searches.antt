@@ -6,7 +6,7 @@ use Rattle.std.proofs.lemmas.Bool.{and_parts, and_from, cases_Bool, cases_eq, ca
 use Rattle.grid.specs.Meshes.{is_below, Ordered}
 use Rattle.mesh_types.specs.declared.cut.Cut.{Cut}
 use Rattle.mesh_types.specs.CutLists.{ends_of}
-use Rattle.mesh_types.proofs.Order.{below_not, below_trans}
+use Rattle.mesh_types.proofs.ForCallers.{below_not, below_trans}
 use Rattle.table_pieces.specs.Labels.{edge_at, is_before, joins, numbered}
 
 -- ---- rising cuts

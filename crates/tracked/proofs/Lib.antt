@@ -1,8 +1,9 @@
-pub mod KeyLemmas
-pub mod PairLemmas
-pub mod KeyFacts
-pub mod Sorted
-pub mod RimLemmas
-pub mod PlaceLemmas
-pub mod IndexLemmas
-pub mod PointLemmas
+mod KeyLemmas
+mod PairLemmas
+mod KeyFacts
+mod Sorted
+mod RimLemmas
+mod PlaceLemmas
+mod IndexLemmas
+mod PointLemmas
+pub mod ForCallers

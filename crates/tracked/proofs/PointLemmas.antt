@@ -7,7 +7,7 @@ use Rattle.grid.specs.Rims.{triples_at}
 use Rattle.grid.specs.Simplices.{has}
 use Rattle.grid.specs.Views.{triples_of}
 use Rattle.grid.specs.declared.shapes.Face.{Face}
-use Rattle.grid.proofs.Members.{count_by-cons, count_by-cons_no, count_by-map}
+use Rattle.grid.proofs.ForCallers.{count_by-cons, count_by-cons_no, count_by-map}
 use Rattle.tracked.specs.Keys.{Keys, entry_at, faces_in, faces_at}
 use Rattle.tracked.specs.Places.{places_of}
 use Rattle.tracked.specs.RimEdges.{has_rim_edge}

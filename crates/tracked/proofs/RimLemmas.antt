@@ -4,7 +4,7 @@ use Rattle.std.specs.List.{list_any}
 use Rattle.std.proofs.lemmas.Bool.{and_parts, and_from, or_cases, or_left, or_right, cases_Bool, eqb-true, eq-eqb, eqb-false, ne_eqb, true≢false, not-true}
 use Rattle.grid.specs.Rims.{IsRim, triples_at}
 use Rattle.grid.specs.Simplices.{has}
-use Rattle.grid.proofs.Members.{count_by-cons_no}
+use Rattle.grid.proofs.ForCallers.{count_by-cons_no}
 use Rattle.tracked.specs.RimEdges.{is_rim_edge, has_rim_edge}
 
 edge_is : (all : List (List ℕ)) (u v : ℕ) → is_rim_edge all u v ≡ true → IsRim all u

@@ -6,8 +6,7 @@ use Rattle.int_algebra.proofs.Ring.{◌⊕◌, ◌⊖◌, ◌⊗◌}
 use Rattle.int_algebra.proofs.Orders.{Certificate, at_most, below, one_more, natural, square, given, ◌⊞◌, ◌⊠◌, ◌≼◌, natural-NonNegative}
 use Rattle.grid.specs.declared.shapes.Point.{Point}
 use Rattle.grid.specs.Near.{gap_at, sq_gap, IsNearCorners}
-use Rattle.grid.proofs.VectorExpressions.{at_, zero_, one_}
-use Rattle.grid.proofs.Gaps.{square_is}
+use Rattle.grid.proofs.ForCallers.{at_, zero_, one_, square_is}
 use Rattle.vectors.specs.Bounded.{gap_of}
 use Rattle.tri_distance.specs.Apart.{IsApart, AreBeyond, AreFar}
 

@@ -7,7 +7,7 @@ use Rattle.int_algebra.proofs.Orders.{at_most, square, given, ◌⊞◌, ◌⊠�
 use Rattle.int_algebra.proofs.Corners.{Corner, less as less_, dot as dot_, cross as cross_}
 use Rattle.grid.specs.Vectors.{Vector, dot, cross, minus, sum_of_two, sum_of_three, scaled}
 use Rattle.tri_distance.specs.Parts.{NearTriangle}
-use Rattle.grid.proofs.VectorExpressions.{coordinates_then, scaled_, plus_, length_, x_, y_, z_, at_, zero_, one_}
+use Rattle.grid.proofs.ForCallers.{coordinates_then, scaled_, plus_, length_, x_, y_, z_, at_, zero_, one_}
 use Rattle.tri_distance.proofs.Segments.{square-Positive}
 use Rattle.tri_distance.proofs.Moves.{CanMove, NearEdge, first_lower, second_lower}
 use Rattle.tri_distance.proofs.Planes.{moved_close}

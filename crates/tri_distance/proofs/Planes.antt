@@ -7,8 +7,7 @@ use Rattle.int_algebra.proofs.Orders.{at_most, natural, square, given, ◌⊞◌
 use Rattle.int_algebra.proofs.Corners.{less as less_, dot as dot_, cross as cross_}
 use Rattle.grid.specs.Vectors.{Vector, dot, cross, minus, sum_of_two, sum_of_three, scaled}
 use Rattle.tri_distance.specs.Parts.{NearTriangle, NearPlane}
-use Rattle.grid.proofs.Gaps.{product-Positive}
-use Rattle.grid.proofs.VectorExpressions.{coordinates_then, scaled_, plus_, length_, squares_, x_, y_, z_, m_, at_, zero_}
+use Rattle.grid.proofs.ForCallers.{product-Positive, coordinates_then, scaled_, plus_, length_, squares_, x_, y_, z_, m_, at_, zero_}
 use Rattle.tri_distance.proofs.Segments.{square-Positive}
 use Rattle.tri_distance.proofs.Moves.{CanMove, NearEdge, first_lower, second_lower, third_lower}
 

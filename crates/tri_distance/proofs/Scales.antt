@@ -10,7 +10,7 @@ use Rattle.grid.specs.Vectors.{Vector, cross, minus, scaled, difference}
 use Rattle.vectors.specs.Bounded.{gap_of}
 use Rattle.grid.specs.Near.{IsNearCorners}
 use Rattle.tri_distance.specs.Parts.{NearTriangle, IsNormal}
-use Rattle.grid.proofs.VectorExpressions.{scaled_, at_}
+use Rattle.grid.proofs.ForCallers.{scaled_, at_}
 use Rattle.grid.specs.Limits.{most_epsilon}
 use Rattle.tri_distance.proofs.Segments.{square-Positive}
 use Rattle.tri_distance.proofs.Triangles.{near_triangle, near_corners}

@@ -6,7 +6,7 @@ use Rattle.int_algebra.proofs.Orders.{at_most, below, one_more, natural, square,
 use Rattle.int_algebra.proofs.Corners.{Corner, less as less_, dot as dot_, cross as cross_}
 use Rattle.grid.specs.Vectors.{Vector, dot, cross, minus, sum_of_two}
 use Rattle.tri_distance.specs.Parts.{NearSegment}
-use Rattle.grid.proofs.VectorExpressions.{coordinates_then, scaled_, plus_, length_, squares_, x_, y_, zero_, one_}
+use Rattle.grid.proofs.ForCallers.{coordinates_then, scaled_, plus_, length_, squares_, x_, y_, zero_, one_}
 
 -- d is x - y, and v, w and r are the variables 6, 7 and 8
 abbrev d_ : Corner

@@ -9,8 +9,7 @@ use Rattle.grid.specs.Vectors.{Vector, dot, cross, minus, sum_of_two, sum_of_thr
 use Rattle.vectors.specs.Bounded.{gap_of}
 use Rattle.grid.specs.Near.{IsNearCorners}
 use Rattle.tri_distance.specs.Parts.{NearSegment, NearTriangle, NearPlane}
-use Rattle.grid.proofs.Gaps.{weighted_gap, sq_gap-weighted_gap, gap_of_near, squares_are}
-use Rattle.grid.proofs.VectorExpressions.{at_, zero_}
+use Rattle.grid.proofs.ForCallers.{weighted_gap, sq_gap-weighted_gap, gap_of_near, squares_are, at_, zero_}
 use Rattle.tri_distance.proofs.Moves.{NearEdge}
 use Rattle.tri_distance.proofs.Planes.{plane-NearTriangle, sharp_near}
 use Rattle.tri_distance.proofs.Flat.{flat_near}

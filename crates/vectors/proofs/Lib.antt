@@ -1,2 +1,2 @@
 pub mod VectorLemmas
-pub mod Fitting
+mod Fitting

@@ -8,7 +8,7 @@ use Rattle.int_algebra.proofs.Bounds.{AreWithin, sum-IsWithin, product-IsWithin,
 use Rattle.grid.specs.declared.shapes.Point.{Point}
 use Rattle.grid.specs.Boxes.{IsUpTo, IsInBox}
 use Rattle.grid.specs.Vectors.{Vector, dot, cross}
-use Rattle.grid.proofs.VectorExpressions.{coordinates_then}
+use Rattle.grid.proofs.ForCallers.{coordinates_then}
 use Rattle.vectors.specs.Bounded.{IsVectorWithin, gap_of}
 
 -- the components of two vectors, one after the other

@@ -9,10 +9,9 @@ ghost use Rattle.mesh_types.specs.Results.{collapse, shift};
 ghost use Rattle.std.specs.Prelude.{Err, IsSome, OnOk, length, nat_abs, ◌+◌, ◌<◌, ◌≡◌};
 
 use super::Store;
-use super::refining::MOST_POINTS;
 use crate::issue::StoreIssue;
 use crate::{planning, touching};
-use grid::Point;
+use grid::{MOST_POINTS, Point};
 
 impl Store {
     /// Makes a point and puts it in place of u.

@@ -1,5 +1,5 @@
 use Rattle.std.proofs.Common.{rules, ◌≡◌, ◌↔◌, ◌+◌, ◌-◌, length, get_or, true, ap, sym, subst, ◌∙◌}
-use Rattle.tri_distance.proofs.Truths.{never_is}
+use Rattle.tri_distance.proofs.ForCallers.{never_is}
 use Rattle.mesh_types.specs.declared.cert.Cert.TheVariants as made
 use Rattle.mesh_types.specs.Certificates.{Covers}
 use Rattle.cover.proofs.Parts.{piece_at, leaf-Covers, parts-Covers}

@@ -1,5 +1,5 @@
 use Rattle.std.proofs.Common.{◌↔◌, ◌≡◌, ◌+◌, ◌-◌, true}
-use Rattle.tri_distance.proofs.Truths.{never_is, always_is}
+use Rattle.tri_distance.proofs.ForCallers.{never_is, always_is}
 use Rattle.mesh_types.specs.Certificates.{IsLeastOfFace, HasNoneOfFace}
 use Rattle.cover.specs.Levels.{HasCertificateAt}
 use Rattle.cover.proofs.Parts.{piece_at, leaf-IsLeastCertificate, none-IsLeastCertificate, split-IsLeastCertificate, parts_of_certificate}

@@ -5,8 +5,8 @@ use Rattle.mesh_types.specs.declared.cut.Cut.{Cut}
 use Rattle.mesh_types.specs.CutLists.{AreCuts}
 use Rattle.mesh_types.specs.Phases.{wanted_cuts}
 use Rattle.mesh_store.specs.Parts.{mesh_in}
-use Rattle.mesh_store.proofs.MeshLemmas.{well_formed}
-use Rattle.cutting_rule.proofs.PhaseCuts.{wanted_cuts-AreCuts, wanted_cuts-in, points-refined}
+use Rattle.mesh_store.proofs.ForCallers.{well_formed}
+use Rattle.cutting_rule.proofs.ForCallers.{wanted_cuts-AreCuts, wanted_cuts-in, points-refined}
 use Rattle.cutter.proofs.phases.cut_wanted.Goals as goal
 
 cuts-are : (c : goal.After-deref) → c.deref.result.now ≡ wanted_cuts (mesh_in c.args.store.now.parts) c.args.triangle.now c.args.i

@@ -3,9 +3,9 @@ use Rattle.mesh_types.specs.declared.cut.Cut.{Cut}
 use Rattle.mesh_types.specs.CuttingRule.{phase_plane}
 use Rattle.mesh_types.specs.Phases.{wanted}
 use Rattle.mesh_store.specs.Parts.{mesh_in, live_tets}
-use Rattle.mesh_store.proofs.MeshLemmas.{well_formed}
+use Rattle.mesh_store.proofs.ForCallers.{well_formed}
 use Rattle.cutting_rule.specs.Edges.{numbers_of}
-use Rattle.cutting_rule.proofs.PhaseCuts.{edges-split, edges-wanted, cuts-wanted}
+use Rattle.cutting_rule.proofs.ForCallers.{edges-split, edges-wanted, cuts-wanted}
 use Rattle.cutter.proofs.phases.wanted_cuts.Goals as goal
 
 wanted-is : (c : goal.After-deref) → numbers_of c.deref.result.now ≡ wanted (mesh_in c.args.store.now.parts) c.args.triangle.now c.args.i

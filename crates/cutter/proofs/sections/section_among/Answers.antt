@@ -1,6 +1,6 @@
 use Rattle.std.proofs.Common.{ap, refl}
 use Rattle.mesh_store.specs.Parts.{mesh_in, live_tets}
-use Rattle.cutting_rule.proofs.SectionFaces.{section-is}
+use Rattle.cutting_rule.proofs.ForCallers.{section-is}
 use Rattle.cutter.proofs.sections.section_among.Goals as goal
 
 pub returns : goal.returns

@@ -4,8 +4,7 @@ use Rattle.grid.specs.Limits.{largest_side}
 use Rattle.tet_slots.specs.Searches.{numbers_of as found_numbers}
 use Rattle.tet_slots.specs.Slots.{slot_at}
 use Rattle.cutting_rule.specs.Section.{section_in}
-use Rattle.cutting_rule.proofs.Points.{points-in}
-use Rattle.cutting_rule.proofs.Steps.{mapped-step, mapped-end}
+use Rattle.cutting_rule.proofs.ForCallers.{points-in, mapped-step, mapped-end}
 use Rattle.cutter.specs.declared.touching.Touched.{Touched}
 use Rattle.cutter.specs.Found.{is_touching}
 use Rattle.cutter.proofs.Meeting.{live-touching, not-touching}

@@ -1,6 +1,6 @@
 use Rattle.std.proofs.Common.{◌∙◌, arith}
 use Rattle.tet_slots.specs.Searches.{meets}
-use Rattle.cutting_rule.proofs.Steps.{flat-step, flat-end}
+use Rattle.cutting_rule.proofs.ForCallers.{flat-step, flat-end}
 use Rattle.cutter.specs.Found.{picked}
 use Rattle.cutter.proofs.Near.{passes-at}
 use Rattle.cutter.proofs.TouchedSlots.{touching-found}

@@ -3,7 +3,7 @@ use Rattle.std.proofs.lemmas.List.{append-nil}
 use Rattle.grid.specs.Limits.{largest_side}
 use Rattle.mesh_types.specs.Phases.{points_of}
 use Rattle.tet_slots.specs.Slots.{slot_at}
-use Rattle.cutting_rule.proofs.Points.{points-in}
+use Rattle.cutting_rule.proofs.ForCallers.{points-in}
 use Rattle.cutting_rule.specs.Touching.{phases_of, touch, touches}
 use Rattle.cutter.specs.Found.{touched_at}
 use Rattle.cutter.proofs.TouchedSlots.{not-touched}

@@ -3,8 +3,7 @@ use Rattle.std.specs.List.{flat_map}
 use Rattle.mesh_types.specs.Phases.{wanted_in}
 use Rattle.tet_slots.specs.Searches.{numbers_of as found_numbers}
 use Rattle.tet_slots.specs.Slots.{slot_at}
-use Rattle.cutting_rule.proofs.Steps.{mapped-step, mapped-end}
-use Rattle.cutting_rule.proofs.Untouched.{untouched-none}
+use Rattle.cutting_rule.proofs.ForCallers.{mapped-step, mapped-end, untouched-none}
 use Rattle.cutter.specs.declared.touching.Touched.{Touched}
 use Rattle.cutter.specs.Found.{is_touching}
 use Rattle.cutter.proofs.Meeting.{live-touching, not-touching}

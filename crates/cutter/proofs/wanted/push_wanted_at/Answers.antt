@@ -5,10 +5,9 @@ use Rattle.mesh_types.specs.Phases.{points_of}
 use Rattle.tet_slots.specs.Slots.{slot_at}
 use Rattle.cutting_rule.specs.Edges.{numbers_of}
 use Rattle.cutting_rule.specs.Touching.{may_want}
-use Rattle.cutting_rule.proofs.Untouched.{may-none}
+use Rattle.cutting_rule.proofs.ForCallers.{may-none, points-in}
 use Rattle.cutter.specs.declared.touching.Touched.{Touched}
 use Rattle.cutter.proofs.TouchedSlots.{phase-at}
-use Rattle.cutting_rule.proofs.Points.{points-in}
 use Rattle.cutter.proofs.wanted.push_wanted_at.Goals as goal
 
 pub push_wanted_of-requires-clause-corners_in : goal.push_wanted_of-requires-clause-corners_in

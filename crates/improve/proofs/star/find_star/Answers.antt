@@ -1,7 +1,7 @@
 use Rattle.std.proofs.Common.{◌≡◌, ◌∙◌, ap, length, [], refl, arith}
 use Rattle.tet_slots.specs.Searches.{numbers_of, has_corner}
 use Rattle.grid.specs.Simplices.{has}
-use Rattle.mesh_store.proofs.Killing.{tets-numbers}
+use Rattle.mesh_store.proofs.ForCallers.{tets-numbers}
 use Rattle.improve.proofs.Stars.{numbers-below}
 use Rattle.improve.proofs.star.find_star.Goals as goal
 

@@ -5,7 +5,7 @@ use Rattle.grid.specs.Meshes.{Mesh}
 use Rattle.mesh_types.specs.Journals.{NoFaceTwice}
 use Rattle.mesh_types.specs.Views.{mesh_of}
 use Rattle.mesh_store.specs.Parts.{StoreView, mesh_in}
-use Rattle.local_ops.proofs.FirstStores.{positive-first}
+use Rattle.local_ops.proofs.ForCallers.{positive-first}
 use Rattle.improve.proofs.tests.six_tetrahedra.Goals as goal
 
 once-first : (r : Result StoreView Memory) (m : Mesh) → NoFaceTwice m → IfOk r (λ s. mesh_in s.parts ≡ m) → IfOk r (λ s. NoFaceTwice (mesh_in s.parts))

@@ -1,7 +1,7 @@
 use Rattle.std.proofs.Common.{refl, get_or, arith, [], below_more}
 use Rattle.grid.specs.declared.shapes.Face.{Face}
 use Rattle.insertion.specs.Bare.{IsBare, IsKept}
-use Rattle.cutting_rule.proofs.Naming.{names-at, all-at}
+use Rattle.cutting_rule.proofs.ForCallers.{names-at, all-at}
 use Rattle.insertion.proofs.Starting.{kept-not}
 use Rattle.insertion.proofs.bare.first_bare.Goals as goal
 

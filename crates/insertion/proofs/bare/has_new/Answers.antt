@@ -1,5 +1,5 @@
 use Rattle.std.proofs.Common.{◌<◌, get_or, arith}
-use Rattle.cutting_rule.proofs.Naming.{has-at, all-index}
+use Rattle.cutting_rule.proofs.ForCallers.{has-at, all-index}
 use Rattle.insertion.proofs.bare.has_new.Goals as goal
 
 pub returns-then-u-first-clause-new : goal.returns-then-u-first-clause-new

@@ -4,7 +4,7 @@ use Rattle.mesh_types.specs.Phases.{phase}
 use Rattle.mesh_store.specs.declared.issue.StoreIssue.{StoreIssue}
 use Rattle.mesh_store.specs.Parts.{mesh_in}
 use Rattle.cutting_rule.specs.Until.{until}
-use Rattle.cutting_rule.proofs.Untils.{within-until}
+use Rattle.cutting_rule.proofs.ForCallers.{within-until}
 use Rattle.insertion.proofs.Growing.{open-more, rolled_back-open}
 use Rattle.insertion.proofs.cutting.cut_among.Goals as goal
 

@@ -1,7 +1,7 @@
 use Rattle.std.proofs.Common.{◌∙◌, sym, ap, subst, arith}
 use Rattle.grid.specs.Determinants.{IsPositive}
 use Rattle.mesh_types.specs.Phases.{points_of}
-use Rattle.cutter.proofs.FirstSlots.{names-first, all-live}
+use Rattle.cutter.proofs.ForCallers.{names-first, all-live}
 use Rattle.insertion.proofs.first.first_inverted.Goals as goal
 
 pub returns-then-not-is_positive : goal.returns-then-not-is_positive

@@ -4,7 +4,7 @@ use Rattle.std.proofs.Common.{to_z-of_z}
 use Rattle.std.specs.Int.Signed.{lt_z}
 use Rattle.std.proofs.lemmas.Int.{ints}
 use Rattle.grid.specs.Determinants.{det, det_at}
-use Rattle.cutting_rule.proofs.Naming.{det-four, corner-in}
+use Rattle.cutting_rule.proofs.ForCallers.{det-four, corner-in}
 use Rattle.insertion.proofs.first.is_positive.Goals as goal
 
 pub det-requires-clause-a_in : goal.det-requires-clause-a_in

@@ -7,7 +7,7 @@ use Rattle.mesh_types.specs.Phases.{cut_by}
 use Rattle.mesh_store.specs.Parts.{Parts, StoreView, mesh_in}
 use Rattle.insertion.specs.Bare.{IsCovered}
 use Rattle.insertion.specs.Progress.{start_of, closed, IsOpenFrom, IsCut}
-use Rattle.cutting_rule.proofs.FirstDefects.{full-first}
+use Rattle.cutting_rule.proofs.ForCallers.{full-first}
 use Rattle.insertion.proofs.Starting.{begun-open, start-is, closed-old, cut-is}
 use Rattle.insertion.proofs.inserting.insert.Goals as goal
 

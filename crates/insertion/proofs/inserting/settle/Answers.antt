@@ -5,13 +5,13 @@ use Rattle.grid.specs.Views.{triples_of}
 use Rattle.mesh_types.specs.Phases.{section}
 use Rattle.mesh_types.specs.Tracking.{with_tracked}
 use Rattle.mesh_store.specs.Parts.{StoreView, mesh_in}
-use Rattle.mesh_store.proofs.MeshLemmas.{well_formed}
+use Rattle.mesh_store.proofs.ForCallers.{well_formed}
 use Rattle.insertion.specs.Bare.{IsCovered}
 use Rattle.insertion.specs.Progress.{start_of}
 use Rattle.insertion.proofs.Covered.{covered-cut}
 use Rattle.insertion.proofs.Fresh.{fresh}
 use Rattle.insertion.proofs.Tiling.{tiles-cut}
-use Rattle.cutting_rule.proofs.SectionTriples.{code-all, section-triples}
+use Rattle.cutting_rule.proofs.ForCallers.{code-all, section-triples}
 use Rattle.insertion.proofs.inserting.settle.Goals as goal
 
 pub track-requires-clause-triples : goal.track-requires-clause-triples

@@ -3,12 +3,11 @@ use Rattle.grid.specs.declared.shapes.Point.{Point}
 use Rattle.grid.specs.Envelopes.{triangle_at}
 use Rattle.mesh_types.specs.Insertion.{NamesFirst, IsUncovered}
 use Rattle.mesh_store.specs.Parts.{mesh_in}
-use Rattle.mesh_store.proofs.MeshLemmas.{well_formed}
+use Rattle.mesh_store.proofs.ForCallers.{well_formed}
 use Rattle.insertion.specs.Bare.{IsBare, IsKept}
 use Rattle.insertion.specs.Progress.{start_of}
-use Rattle.cutting_rule.proofs.FirstDefects.{uncovered-first, none-first}
+use Rattle.cutting_rule.proofs.ForCallers.{uncovered-first, none-first, names-other}
 use Rattle.insertion.proofs.Fresh.{fresh}
-use Rattle.cutting_rule.proofs.Naming.{names-other}
 use Rattle.insertion.proofs.Starting.{bare-uncovered, kept-covered}
 use Rattle.insertion.proofs.judging.judge_near.Goals as goal
 

@@ -3,7 +3,7 @@ use Rattle.grid.specs.Envelopes.{triangle_at}
 use Rattle.mesh_store.specs.Parts.{mesh_in}
 use Rattle.cutter.specs.First.{IsFirstWanted}
 use Rattle.insertion.specs.Progress.{start_of}
-use Rattle.cutting_rule.proofs.FirstDefects.{unresolved-first}
+use Rattle.cutting_rule.proofs.ForCallers.{unresolved-first}
 use Rattle.insertion.proofs.judging.judge_positive.Goals as goal
 
 pub returns-in-Some : goal.returns-in-Some

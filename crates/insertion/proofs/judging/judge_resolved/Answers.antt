@@ -8,10 +8,9 @@ use Rattle.grid.specs.Views.{triples_of}
 use Rattle.mesh_types.specs.Insertion.{NamesFirst, IsStray}
 use Rattle.mesh_types.specs.Phases.{section}
 use Rattle.mesh_store.specs.Parts.{mesh_in}
-use Rattle.mesh_store.proofs.MeshLemmas.{well_formed}
+use Rattle.mesh_store.proofs.ForCallers.{well_formed}
 use Rattle.insertion.specs.Progress.{start_of}
-use Rattle.cutting_rule.proofs.FirstDefects.{stray-first}
-use Rattle.cutting_rule.proofs.SectionTriples.{code-all, section-triples, lower}
+use Rattle.cutting_rule.proofs.ForCallers.{stray-first, code-all, section-triples, lower}
 use Rattle.insertion.proofs.judging.judge_resolved.Goals as goal
 
 pub first_stray-requires-clause-there : goal.first_stray-requires-clause-there

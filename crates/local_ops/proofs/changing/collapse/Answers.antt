@@ -1,6 +1,6 @@
 use Rattle.std.proofs.Common.{◌<◌, length, sym, subst}
 use Rattle.mesh_store.specs.Parts.{StoreView, mesh_in}
-use Rattle.mesh_store.proofs.MeshLemmas.{well_formed}
+use Rattle.mesh_store.proofs.ForCallers.{well_formed}
 use Rattle.local_ops.proofs.Ends.{collapse_ends}
 use Rattle.local_ops.proofs.changing.collapse.Goals as goal
 

@@ -1,7 +1,7 @@
 use Rattle.std.proofs.Common.{◌<◌, length, nat_abs, sym, subst}
 use Rattle.grid.specs.Boxes.{IsInBox}
 use Rattle.mesh_store.specs.Parts.{StoreView, mesh_in}
-use Rattle.mesh_store.proofs.MeshLemmas.{well_formed}
+use Rattle.mesh_store.proofs.ForCallers.{well_formed}
 use Rattle.local_ops.proofs.Ends.{shift_end}
 use Rattle.local_ops.proofs.NewPoints.{target-in}
 use Rattle.local_ops.proofs.changing.shift.Goals as goal

@@ -6,9 +6,9 @@ use Rattle.grid.specs.Determinants.{point_at}
 use Rattle.mesh_types.specs.declared.cut.Cut.{Cut}
 use Rattle.mesh_types.specs.CutLists.{AreCuts, IsCut}
 use Rattle.mesh_types.specs.Results.{midpoint_floored}
-use Rattle.mesh_types.proofs.Candidates.{split_is}
+use Rattle.mesh_types.proofs.ForCallers.{split_is}
 use Rattle.mesh_store.specs.Parts.{StoreView, mesh_in}
-use Rattle.mesh_store.proofs.MeshLemmas.{well_formed}
+use Rattle.mesh_store.proofs.ForCallers.{well_formed}
 use Rattle.local_ops.proofs.Changed.{split-changed, split-full}
 use Rattle.local_ops.proofs.Ends.{split_ends}
 use Rattle.local_ops.proofs.NewPoints.{middle-in}

@@ -5,9 +5,9 @@ use Rattle.grid.specs.declared.shapes.Point.{Point}
 use Rattle.grid.specs.Meshes.{IsTriple}
 use Rattle.grid.specs.Simplices.{has}
 use Rattle.grid.specs.Views.{triples_of}
-use Rattle.mesh_types.proofs.Chosen.{Each-filter}
+use Rattle.mesh_types.proofs.ForCallers.{Each-filter}
 use Rattle.mesh_store.specs.Parts.{tracked_in}
-use Rattle.mesh_store.proofs.KeySets.{tracked-triples}
+use Rattle.mesh_store.proofs.ForCallers.{tracked-triples}
 use Rattle.local_ops.specs.Covering.{IsFine}
 use Rattle.local_ops.specs.Surface.{at_point}
 use Rattle.local_ops.proofs.FaceLists.{all-faces}

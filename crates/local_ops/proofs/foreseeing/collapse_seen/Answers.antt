@@ -8,7 +8,7 @@ use Rattle.grid.specs.Limits.{largest_side}
 use Rattle.mesh_types.specs.declared.tries.Try.TheVariants.{Collapse, Shift}
 use Rattle.tet_slots.specs.declared.slot.Slot.{Slot}
 use Rattle.mesh_store.specs.Parts.{live_tets, mesh_in}
-use Rattle.mesh_store.proofs.MeshLemmas.{well_formed}
+use Rattle.mesh_store.proofs.ForCallers.{well_formed}
 use Rattle.local_ops.specs.Apart.{is_apart}
 use Rattle.local_ops.specs.Attempts.{may_go}
 use Rattle.local_ops.specs.Foreseen.{near_tets}

@@ -1,7 +1,7 @@
 use Rattle.std.proofs.Common.{nat_abs}
 use Rattle.mesh_types.specs.Results.{target}
 use Rattle.mesh_store.specs.Parts.{mesh_in}
-use Rattle.mesh_store.proofs.MeshLemmas.{well_formed}
+use Rattle.mesh_store.proofs.ForCallers.{well_formed}
 use Rattle.local_ops.proofs.Aims.{aim-shift}
 use Rattle.local_ops.proofs.Once.{single-shift}
 use Rattle.local_ops.proofs.foreseeing.shift_seen.Goals as goal

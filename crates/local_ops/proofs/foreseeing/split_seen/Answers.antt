@@ -3,7 +3,7 @@ use Rattle.grid.specs.declared.shapes.Point.{Point}
 use Rattle.grid.specs.Determinants.{point_at}
 use Rattle.mesh_types.specs.Results.{midpoint_floored}
 use Rattle.mesh_store.specs.Parts.{mesh_in}
-use Rattle.mesh_store.proofs.MeshLemmas.{well_formed}
+use Rattle.mesh_store.proofs.ForCallers.{well_formed}
 use Rattle.local_ops.proofs.Aims.{aim-split}
 use Rattle.local_ops.proofs.Ends.{split_ends}
 use Rattle.local_ops.proofs.Once.{single-split}

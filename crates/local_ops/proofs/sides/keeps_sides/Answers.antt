@@ -2,7 +2,7 @@ use Rattle.std.proofs.Common.{◌≡◌, subst, true}
 use Rattle.mesh_types.specs.declared.tries.Try.{Try}
 use Rattle.mesh_types.specs.Tries.{is_candidate}
 use Rattle.mesh_store.specs.Parts.{mesh_in}
-use Rattle.mesh_store.proofs.MeshLemmas.{well_formed}
+use Rattle.mesh_store.proofs.ForCallers.{well_formed}
 use Rattle.local_ops.proofs.Ends.{collapse_ends, edge_swap_ends}
 use Rattle.local_ops.proofs.sides.keeps_sides.Goals as goal
 

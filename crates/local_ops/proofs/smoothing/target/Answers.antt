@@ -1,7 +1,7 @@
 use Rattle.std.proofs.Common.{◌≡◌, ◌∙◌, ◌<◌, All, length, ap, sym, subst, arith}
 use Rattle.mesh_types.specs.Results.{neighbours}
 use Rattle.mesh_store.specs.Parts.{mesh_in}
-use Rattle.mesh_store.proofs.MeshLemmas.{well_formed}
+use Rattle.mesh_store.proofs.ForCallers.{well_formed}
 use Rattle.local_ops.proofs.Ends.{point_end}
 use Rattle.local_ops.proofs.Neighbours.{neighbours-below, neighbours-some, neighbours-few}
 use Rattle.local_ops.proofs.smoothing.target.Goals as goal

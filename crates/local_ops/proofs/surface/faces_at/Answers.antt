@@ -1,6 +1,6 @@
 use Rattle.std.proofs.Common.{◌≡◌, ◌∙◌, ap}
 use Rattle.tracked.specs.Keys.{Keys, faces_at}
-use Rattle.mesh_store.proofs.FaceSearches.{at-corner-is}
+use Rattle.mesh_store.proofs.ForCallers.{at-corner-is}
 use Rattle.local_ops.proofs.surface.faces_at.Goals as goal
 
 pub returns : goal.returns

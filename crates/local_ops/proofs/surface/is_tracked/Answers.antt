@@ -1,6 +1,6 @@
 use Rattle.std.proofs.Common.{◌∙◌, ap}
 use Rattle.tracked.specs.Keys.{Keys, is_in}
-use Rattle.mesh_store.proofs.Exchanged.{is_in-tracked}
+use Rattle.mesh_store.proofs.ForCallers.{is_in-tracked}
 use Rattle.local_ops.proofs.surface.is_tracked.Goals as goal
 
 pub returns : goal.returns

@@ -4,11 +4,10 @@ use Rattle.std.proofs.lemmas.List.Kept.{Contains-dedup, Contains-from_dedup, IsS
 use Rattle.std.proofs.lemmas.List.Sorted.{Contains-permutation, IsPermutation-sym}
 use Rattle.std.proofs.lemmas.Map.Text.{is_eq-slice_cmp}
 use Rattle.grid.specs.Views.{triples_of}
-use Rattle.mesh_types.proofs.TripleSets.{is_among}
-use Rattle.tracked.proofs.KeyFacts.{same-equal, same_face-IsEquivalence}
-use Rattle.tracked.proofs.Sorted.{face_cmp-total, Ordered-sorted}
+use Rattle.mesh_types.proofs.ForCallers.{is_among}
+use Rattle.tracked.proofs.ForCallers.{same-equal, same_face-IsEquivalence, face_cmp-total, Ordered-sorted}
 use Rattle.mesh_store.specs.Changes.{face_of}
-use Rattle.mesh_store.proofs.FaceSearches.{Contains-among, among-Contains}
+use Rattle.mesh_store.proofs.ForCallers.{Contains-among, among-Contains}
 use Rattle.local_ops.proofs.surface.rise.Goals as goal
 
 same_bools : (p q : Bool) → (p ≡ true → q ≡ true) → (q ≡ true → p ≡ true) → p ≡ q

@@ -2,7 +2,7 @@ use Rattle.std.proofs.Common.{◌≡◌, ◌∙◌, ℕ, pos, List, [], ◌∷�
 use Rattle.grid.specs.declared.shapes.Point.{Point}
 use Rattle.grid.specs.Determinants.{IsPositive, det}
 use Rattle.grid.specs.Views.{corners_of}
-use Rattle.mesh_types.proofs.Rotated.{positive_test}
+use Rattle.mesh_types.proofs.ForCallers.{positive_test}
 use Rattle.local_ops.proofs.FirstStores.{positive-first}
 use Rattle.local_ops.proofs.tests.three.Goals as goal
 

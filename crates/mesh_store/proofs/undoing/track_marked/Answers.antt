@@ -1,7 +1,7 @@
 use Rattle.std.proofs.Common.{◌≡◌, ◌∙◌, sym, ap, true, false, None, Some, [], ◌∷◌, ◌++◌, length, arith}
 use Rattle.std.proofs.lemmas.List.{length_push}
 use Rattle.tracked.specs.Keys.{Keys, state_of, put}
-use Rattle.tracked.proofs.KeyLemmas.{state-put, put-new, put-back}
+use Rattle.tracked.proofs.ForCallers.{state-put, put-new, put-back}
 use Rattle.mesh_store.specs.Undoing.{front}
 use Rattle.mesh_store.proofs.Steps.{is-Restored, is-New, front-push}
 use Rattle.mesh_store.proofs.undoing.track_marked.Goals as goal

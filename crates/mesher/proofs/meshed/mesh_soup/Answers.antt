@@ -10,10 +10,10 @@ use Rattle.mesh_types.specs.Journals.{setting}
 use Rattle.mesh_types.specs.Lattice.{lattice}
 use Rattle.mesh_types.specs.Turns.{rolled_back}
 use Rattle.mesh_types.specs.Views.{mesh_of}
-use Rattle.mesh_types.proofs.OneOutcome.{one-each}
+use Rattle.mesh_types.proofs.ForCallers.{one-each}
 use Rattle.mesh_store.specs.Parts.{StoreView, mesh_in}
 use Rattle.mesh_store.specs.Sound.{IsSound}
-use Rattle.mesh_store.proofs.MeshLemmas.{well_formed}
+use Rattle.mesh_store.proofs.ForCallers.{well_formed}
 use Rattle.mesher.specs.Meshed.{AreCoverings, HasItsCertificate, IsSecondOrNone}
 use Rattle.mesher.proofs.Beginning.{first-mesh}
 use Rattle.mesher.proofs.Ending.{have-certificates, in-setting, meshed-is, part-of, tiles-as}

@@ -2,7 +2,7 @@ use Rattle.std.proofs.Common.{◌≡◌, nat_abs, length, subst}
 use Rattle.std.specs.List.{range_with_len}
 use Rattle.mesh_types.specs.Journals.{JournalRule, StaysSound, last_mesh, setting}
 use Rattle.mesh_store.specs.Parts.{mesh_in}
-use Rattle.mesh_store.proofs.MeshLemmas.{well_formed}
+use Rattle.mesh_store.proofs.ForCallers.{well_formed}
 use Rattle.mesher.proofs.Keeping.{turns-covered}
 use Rattle.mesher.proofs.parts.first_part.Goals as goal
 

@@ -2,7 +2,7 @@ use Rattle.std.proofs.Common.{◌≡◌, ◌∙◌, [], nat_abs, sym, ap, subst}
 use Rattle.mesh_types.specs.Journals.{JournalRule, StaysSound, last_mesh, setting}
 use Rattle.mesh_types.specs.Turns.{rolled_back}
 use Rattle.mesh_store.specs.Parts.{mesh_in}
-use Rattle.mesh_store.proofs.MeshLemmas.{well_formed}
+use Rattle.mesh_store.proofs.ForCallers.{well_formed}
 use Rattle.insertion.specs.InTurn.{outcomes_of, triangles_of}
 use Rattle.mesher.proofs.Keeping.{turns-covered, is_none, is_some, none-inserted}
 use Rattle.mesher.proofs.parts.second_part.Goals as goal

@@ -3,7 +3,7 @@ use Rattle.std.specs.List.{range_with_len}
 use Rattle.mesh_types.specs.declared.outcome.Outcome.{Outcome}
 use Rattle.mesh_store.specs.Parts.{StoreView, mesh_in}
 use Rattle.insertion.specs.InTurn.{AreTurns, AreSomeTurns}
-use Rattle.insertion.proofs.Turning.{no-turns, turns-push, range-push, first-turns, on_err}
+use Rattle.insertion.proofs.ForCallers.{no-turns, turns-push, range-push, first-turns, on_err}
 use Rattle.mesher.proofs.turns.insert_all.Goals as goal
 
 pub loop-t-init : goal.loop-t-init

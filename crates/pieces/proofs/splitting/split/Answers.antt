@@ -3,7 +3,7 @@ use Rattle.std.specs.List.{flat_map}
 use Rattle.std.proofs.lemmas.List.{at_drop_all}
 use Rattle.mesh_types.specs.declared.cut.Cut.{Cut}
 use Rattle.mesh_types.specs.Refines.{sub_all}
-use Rattle.mesh_types.proofs.Refinement.{flat_map-none}
+use Rattle.mesh_types.proofs.ForCallers.{flat_map-none}
 use Rattle.pieces.proofs.SplitLemmas.{split-step, no_cut}
 use Rattle.pieces.proofs.splitting.split.Goals as goal
 

@@ -2,7 +2,7 @@ use Rattle.std.proofs.Common.{[], refl, sym, arith, below_more}
 use Rattle.std.proofs.lemmas.Bool.{true≢false}
 use Rattle.grid.specs.declared.shapes.Tet.{Tet}
 use Rattle.grid.specs.Determinants.{IsPositive}
-use Rattle.cutting_rule.proofs.Naming.{all-at}
+use Rattle.cutting_rule.proofs.ForCallers.{all-at}
 use Rattle.plain_ops.proofs.RimPoints.{at-place}
 use Rattle.plain_ops.proofs.after.are_positive.Goals as goal
 

@@ -1,7 +1,7 @@
 use Rattle.std.proofs.Common.{◌≡◌, ◌∙◌, length, sym, arith, rules, SFits, to_z-of_z}
 use mir.Syntax.{w128}
 use Rattle.grid.specs.Determinants.{det}
-use Rattle.cutting_rule.proofs.Naming.{det-four}
+use Rattle.cutting_rule.proofs.ForCallers.{det-four}
 use Rattle.plain_ops.proofs.after.det_of.Goals as goal
 
 pub returns : goal.returns

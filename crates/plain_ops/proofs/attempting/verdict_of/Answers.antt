@@ -8,7 +8,7 @@ use Rattle.mesh_types.specs.Journals.{setting}
 use Rattle.mesh_types.specs.Results.{Result}
 use Rattle.mesh_types.specs.Verdicts.{Setting, PassesBox, IsSingle, IsBetter, AreCovered}
 use Rattle.mesh_types.specs.Views.{mesh_of}
-use Rattle.mesh_types.proofs.Inside.{inside_law}
+use Rattle.mesh_types.proofs.ForCallers.{inside_law}
 use Rattle.plain_ops.proofs.GoneTets.{gone-positive}
 use Rattle.plain_ops.proofs.Meshes.{on-grid}
 use Rattle.plain_ops.proofs.Reasons.{first, next, all}

@@ -2,7 +2,7 @@ use Rattle.std.proofs.Common.{[], refl, sym, arith, below_more}
 use Rattle.std.proofs.lemmas.Bool.{true≢false}
 use Rattle.grid.specs.declared.shapes.Face.{Face}
 use Rattle.grid.specs.Views.{triples_of}
-use Rattle.cutting_rule.proofs.Naming.{all-at}
+use Rattle.cutting_rule.proofs.ForCallers.{all-at}
 use Rattle.plain_ops.specs.Befores.{FallsOnAnother}
 use Rattle.plain_ops.proofs.RimPoints.{apart-from, apart-to, at-place}
 use Rattle.plain_ops.proofs.before.are_apart.Goals as goal

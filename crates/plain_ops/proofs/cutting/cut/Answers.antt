@@ -5,7 +5,7 @@ use Rattle.grid.specs.Limits.{largest_side}
 use Rattle.mesh_types.specs.Phases.{phase}
 use Rattle.mesh_types.specs.Views.{mesh_of}
 use Rattle.cutting_rule.specs.Until.{until}
-use Rattle.cutting_rule.proofs.Untils.{until-well_formed, within-until}
+use Rattle.cutting_rule.proofs.ForCallers.{until-well_formed, within-until}
 use Rattle.plain_ops.proofs.Meshes.{phase-in}
 use Rattle.plain_ops.proofs.cutting.cut.Goals as goal
 

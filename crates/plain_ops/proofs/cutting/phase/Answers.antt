@@ -3,7 +3,7 @@ use Rattle.mesh_types.specs.Phases.{wanted, wanted_cuts}
 use Rattle.mesh_types.specs.Refines.{refine}
 use Rattle.mesh_types.specs.Views.{mesh_of}
 use Rattle.cutting_rule.specs.Edges.{numbers_of}
-use Rattle.cutting_rule.proofs.PhaseCuts.{edges-split, cuts-wanted}
+use Rattle.cutting_rule.proofs.ForCallers.{edges-split, cuts-wanted}
 use Rattle.plain_ops.proofs.Meshes.{few-cuts}
 use Rattle.plain_ops.proofs.cutting.phase.Goals as goal
 

@@ -1,7 +1,7 @@
 use Rattle.std.proofs.Common.{refl, arith, [], below_more}
 use Rattle.grid.specs.declared.shapes.Tet.{Tet}
 use Rattle.grid.specs.Determinants.{IsPositive}
-use Rattle.cutting_rule.proofs.Naming.{names-at, all-at}
+use Rattle.cutting_rule.proofs.ForCallers.{names-at, all-at}
 use Rattle.plain_ops.proofs.defects.first_inverted.Goals as goal
 
 abbrev no_tet : Tet

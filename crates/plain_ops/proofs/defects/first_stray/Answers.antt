@@ -3,7 +3,7 @@ use Rattle.grid.specs.declared.shapes.Face.{Face}
 use Rattle.grid.specs.Determinants.{point_at}
 use Rattle.grid.specs.Near.{Near}
 use Rattle.mesh_types.specs.Insertion.{IsStray}
-use Rattle.cutting_rule.proofs.Naming.{names-at, all-at, all-has}
+use Rattle.cutting_rule.proofs.ForCallers.{names-at, all-at, all-has}
 use Rattle.plain_ops.proofs.defects.first_stray.Goals as goal
 
 pub returns-then-is_stray : goal.returns-then-is_stray

@@ -2,7 +2,7 @@ use Rattle.std.proofs.Common.{refl, arith, [], below_more}
 use Rattle.grid.specs.declared.shapes.Face.{Face}
 use Rattle.grid.specs.Views.{triples_of}
 use Rattle.mesh_types.specs.Insertion.{IsUncovered}
-use Rattle.cutting_rule.proofs.Naming.{names-at, all-at}
+use Rattle.cutting_rule.proofs.ForCallers.{names-at, all-at}
 use Rattle.plain_ops.proofs.defects.first_uncovered.Goals as goal
 
 abbrev no_face : Face

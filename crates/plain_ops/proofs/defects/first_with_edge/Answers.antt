@@ -4,7 +4,7 @@ use Rattle.std.proofs.lemmas.Bool.{true≢false}
 use Rattle.grid.specs.declared.shapes.Tet.{Tet}
 use Rattle.grid.specs.Simplices.{has_all}
 use Rattle.cutting_rule.specs.Edges.{numbers_of}
-use Rattle.cutting_rule.proofs.Naming.{names-at, all-at}
+use Rattle.cutting_rule.proofs.ForCallers.{names-at, all-at}
 use Rattle.plain_ops.proofs.defects.first_with_edge.Goals as goal
 
 abbrev no_tet : Tet

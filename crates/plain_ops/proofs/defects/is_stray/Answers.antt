@@ -1,7 +1,7 @@
 use Rattle.std.proofs.Common.{refl, get_or, arith, below_more}
 use Rattle.grid.specs.Determinants.{point_at}
 use Rattle.grid.specs.Near.{Near}
-use Rattle.cutting_rule.proofs.Naming.{has-at, all-index}
+use Rattle.cutting_rule.proofs.ForCallers.{has-at, all-index}
 use Rattle.plain_ops.proofs.defects.is_stray.Goals as goal
 
 pub returns-then-is_far-clause-stray : goal.returns-then-is_far-clause-stray

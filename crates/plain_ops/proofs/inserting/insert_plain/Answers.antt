@@ -9,7 +9,7 @@ use Rattle.mesh_types.specs.declared.lists.Lists.{Lists}
 use Rattle.mesh_types.specs.declared.outcome.Defect.TheVariants.{Degenerate, Full}
 use Rattle.mesh_types.specs.Phases.{cut_by}
 use Rattle.mesh_types.specs.Views.{mesh_of}
-use Rattle.cutting_rule.proofs.FirstDefects.{degenerate-first, full-first}
+use Rattle.cutting_rule.proofs.ForCallers.{degenerate-first, full-first}
 use Rattle.plain_ops.specs.CutMeshes.{IsCutMesh}
 use Rattle.plain_ops.proofs.CutMeshes.{undone-is}
 use Rattle.plain_ops.proofs.Meshes.{on-grid}

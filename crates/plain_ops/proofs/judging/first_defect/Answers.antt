@@ -6,7 +6,7 @@ use Rattle.grid.specs.Views.{corners_of}
 use Rattle.grid.specs.Limits.{largest_side}
 use Rattle.mesh_types.specs.Insertion.{NamesFirst}
 use Rattle.mesh_types.specs.Views.{mesh_of}
-use Rattle.cutting_rule.proofs.FirstDefects.{inverted-first}
+use Rattle.cutting_rule.proofs.ForCallers.{inverted-first}
 use Rattle.plain_ops.proofs.CutMeshes.{cut-well_formed}
 use Rattle.plain_ops.proofs.Meshes.{tets-are}
 use Rattle.plain_ops.proofs.judging.first_defect.Goals as goal

@@ -5,7 +5,7 @@ use Rattle.grid.specs.Views.{triples_of}
 use Rattle.grid.specs.Limits.{largest_side}
 use Rattle.mesh_types.specs.Insertion.{NamesFirst, IsUncovered}
 use Rattle.mesh_types.specs.Views.{mesh_of}
-use Rattle.cutting_rule.proofs.FirstDefects.{uncovered-first, none-first}
+use Rattle.cutting_rule.proofs.ForCallers.{uncovered-first, none-first}
 use Rattle.plain_ops.proofs.CutMeshes.{cut-well_formed, tracked-there}
 use Rattle.plain_ops.proofs.judging.judge_near.Goals as goal
 

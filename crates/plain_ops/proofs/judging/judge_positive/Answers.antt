@@ -6,7 +6,7 @@ use Rattle.grid.specs.Meshes.{Mesh}
 use Rattle.mesh_types.specs.Insertion.{NamesFirst}
 use Rattle.mesh_types.specs.Phases.{is_unresolved}
 use Rattle.mesh_types.specs.Views.{mesh_of}
-use Rattle.cutting_rule.proofs.FirstDefects.{unresolved-first}
+use Rattle.cutting_rule.proofs.ForCallers.{unresolved-first}
 use Rattle.plain_ops.proofs.CutMeshes.{cut-well_formed}
 use Rattle.plain_ops.proofs.judging.judge_positive.Goals as goal
 

@@ -7,7 +7,7 @@ use Rattle.grid.specs.Limits.{largest_side}
 use Rattle.mesh_types.specs.Insertion.{NamesFirst, IsStray}
 use Rattle.mesh_types.specs.Phases.{section}
 use Rattle.mesh_types.specs.Views.{mesh_of}
-use Rattle.cutting_rule.proofs.FirstDefects.{stray-first}
+use Rattle.cutting_rule.proofs.ForCallers.{stray-first}
 use Rattle.plain_ops.proofs.CutMeshes.{cut-well_formed, faces-there}
 use Rattle.plain_ops.proofs.judging.judge_resolved.Goals as goal
 

@@ -4,7 +4,7 @@ use Rattle.mesh_types.specs.declared.tries.Try.{Try}
 use Rattle.mesh_types.specs.Results.{result_of, shift, target}
 use Rattle.mesh_types.specs.Tries.{is_candidate}
 use Rattle.mesh_types.specs.Views.{mesh_of}
-use Rattle.mesh_types.proofs.Candidates.{shift_is}
+use Rattle.mesh_types.proofs.ForCallers.{shift_is}
 use Rattle.plain_ops.specs.PlainResults.{result_in}
 use Rattle.plain_ops.proofs.results.result_of.Goals as goal
 

@@ -4,7 +4,7 @@ use Rattle.std.specs.Int.{int_div_euclid}
 use Rattle.std.proofs.Math.Facts.{to_z_pos}
 use Rattle.grid.specs.Boxes.{IsUpTo}
 use Rattle.grid.specs.Limits.{largest_side}
-use Rattle.mesh_types.proofs.SumsInTurn.{small-fits}
+use Rattle.mesh_types.proofs.ForCallers.{small-fits}
 use Rattle.plain_ops.proofs.Means.{mean-in}
 use Rattle.plain_ops.proofs.targets.mean_of.Goals as goal
 

@@ -4,7 +4,7 @@ use Rattle.grid.specs.Boxes.{IsUpTo}
 use Rattle.grid.specs.Determinants.{point_at}
 use Rattle.grid.specs.Limits.{largest_side}
 use Rattle.plain_ops.specs.Targets.{along}
-use Rattle.mesh_types.proofs.SumsInTurn.{small-fits, sum-more, IsUpTo-sum}
+use Rattle.mesh_types.proofs.ForCallers.{small-fits, sum-more, IsUpTo-sum}
 use Rattle.plain_ops.proofs.targets.sum_along.Goals as goal
 
 pub loop-w-preserved : goal.loop-w-preserved

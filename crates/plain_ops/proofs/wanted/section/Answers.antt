@@ -1,7 +1,7 @@
 use Rattle.std.proofs.Common.{refl, ap}
 use Rattle.grid.specs.Views.{corners_of}
 use Rattle.mesh_types.specs.Views.{mesh_of}
-use Rattle.cutting_rule.proofs.SectionFaces.{section-is}
+use Rattle.cutting_rule.proofs.ForCallers.{section-is}
 use Rattle.plain_ops.proofs.Meshes.{tets-are}
 use Rattle.plain_ops.proofs.wanted.section.Goals as goal
 

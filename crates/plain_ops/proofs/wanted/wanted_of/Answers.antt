@@ -2,8 +2,7 @@ use Rattle.std.proofs.Common.{[], refl, arith, get_or}
 use Rattle.grid.specs.declared.shapes.Tet.{Tet}
 use Rattle.grid.specs.Limits.{largest_side}
 use Rattle.mesh_types.specs.Phases.{wanted_in}
-use Rattle.cutting_rule.proofs.Points.{points-in}
-use Rattle.cutting_rule.proofs.Steps.{mapped-step, mapped-end}
+use Rattle.cutting_rule.proofs.ForCallers.{points-in, mapped-step, mapped-end}
 use Rattle.plain_ops.proofs.wanted.wanted_of.Goals as goal
 
 abbrev no_tet : Tet

@@ -2,7 +2,7 @@
 use Rattle.std.proofs.Common.{◌≡◌, ℕ, ◌+◌, ◌^◌, List, [], ◌∷◌, w64, subst, sym, lit≤}
 use Rattle.int_algebra.proofs.Kept.{Code, variable, ◌⊖◌, ◌⊗◌, kept, code_value, kept-value}
 use Rattle.grid.specs.Vectors as vectors
-use Rattle.grid.proofs.VectorExpressions.{coordinates_then}
+use Rattle.grid.proofs.ForCallers.{coordinates_then}
 use Rattle.vectors.specs.declared.vector.Vector.{Vector}
 use Rattle.vectors.specs.Bounded.{vector_of, IsVectorWithin}
 use Rattle.vectors.proofs.VectorLemmas.{two_within, cross-IsVectorWithin}

@@ -2,7 +2,7 @@
 use Rattle.std.proofs.Common.{ℕ, ◌+◌, ◌^◌, List, [], ◌∷◌, w64}
 use Rattle.int_algebra.proofs.Kept.{Code, variable, ◌⊖◌, kept, kept-value}
 use Rattle.grid.specs.Vectors.{minus}
-use Rattle.grid.proofs.VectorExpressions.{coordinates_then}
+use Rattle.grid.proofs.ForCallers.{coordinates_then}
 use Rattle.vectors.specs.Bounded.{vector_of}
 use Rattle.vectors.proofs.VectorLemmas.{two_within}
 use Rattle.vectors.proofs.vector.minus.Goals as goal

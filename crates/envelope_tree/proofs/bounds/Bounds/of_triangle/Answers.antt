@@ -1,5 +1,5 @@
 use Rattle.std.proofs.Common.{ℤ, subst, lit<, to_z, of_z, w32}
-use Rattle.tri_distance.proofs.Limits.{up_to-IsWithin}
+use Rattle.tri_distance.proofs.ForCallers.{up_to-IsWithin}
 use Rattle.grid.specs.Boxes.{IsUpTo}
 use Rattle.grid.specs.Limits.{largest_side}
 use Rattle.envelope_tree.specs.declared.bounds.Interval.{Interval}

@@ -1,7 +1,7 @@
 use Rattle.std.proofs.Common.{◌≡◌, ◌^◌, ℤ, ◌*ℤ◌, ◌+ℤ◌, ap, subst, sym, ◌∙◌, lit<, to_z, of_z, w32, w64}
 use mir.Syntax.{w128}
 use Rattle.int_algebra.specs.Within.{IsWithin}
-use Rattle.tri_distance.proofs.Limits.{up_to-IsWithin}
+use Rattle.tri_distance.proofs.ForCallers.{up_to-IsWithin}
 use Rattle.grid.specs.Boxes.{IsUpTo}
 use Rattle.envelope_tree.specs.declared.bounds.Interval.{Interval}
 use Rattle.envelope_tree.specs.Gaps.{gap_of}

@@ -1,6 +1,6 @@
 use Rattle.std.proofs.Common.{◌^◌, ◌*ℤ◌, ap₂, ◌∙◌, lit<, w32, w64}
 use Rattle.grid.specs.Limits.{largest_side}
-use Rattle.tri_distance.proofs.Limits.{up_to-IsWithin}
+use Rattle.tri_distance.proofs.ForCallers.{up_to-IsWithin}
 use Rattle.envelope_tree.proofs.Kept.{kept_is, widened_is, same_outside}
 use Rattle.envelope_tree.proofs.bounds.Interval.gap.Goals as goal
 

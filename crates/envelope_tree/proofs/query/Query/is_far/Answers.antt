@@ -3,8 +3,7 @@ use mir.Syntax.{w128}
 use Rattle.std.specs.Int.Signed.{lt_z}
 use Rattle.int_algebra.specs.Within.{IsWithin}
 use Rattle.int_algebra.proofs.Orders.{less_test}
-use Rattle.tri_distance.proofs.Limits.{power_at_most, box_at_most, wider-IsInBox}
-use Rattle.tri_distance.proofs.Scales.{reach-IsWithin}
+use Rattle.tri_distance.proofs.ForCallers.{power_at_most, box_at_most, wider-IsInBox, reach-IsWithin}
 use Rattle.envelope_tree.specs.declared.query.Query.{Query}
 use Rattle.envelope_tree.specs.Gaps.{sq_gap_of}
 use Rattle.envelope_tree.specs.Queries.{IsQuery}

@@ -1,6 +1,6 @@
 use Rattle.std.proofs.Common.{ap, false, true, [], ◌∷◌, refl}
 use Rattle.undo_record.specs.declared.mark.Mark.TheVariants.{FaceOut}
-use Rattle.tracked.proofs.KeyLemmas.{state-put}
+use Rattle.tracked.proofs.ForCallers.{state-put}
 use Rattle.mesh_store.specs.Changes.{face_put}
 use Rattle.mesh_store.specs.Parts.{parts_of}
 use Rattle.mesh_store.specs.Store.{parts_now}

@@ -4,7 +4,7 @@ use Rattle.std.proofs.Math.Facts.{to_z_pos}
 use Rattle.int_algebra.specs.Within.{IsWithin}
 use Rattle.int_algebra.proofs.Bounds.{AreWithin, within_cast}
 use Rattle.int_algebra.proofs.Kept.{Code, variable, ◌⊗◌, kept, kept-value, fits_code}
-use Rattle.grid.proofs.Gaps.{square_is}
+use Rattle.grid.proofs.ForCallers.{square_is}
 use Rattle.grid.specs.Limits.{most_epsilon}
 use Rattle.planes.proofs.plane.Plane.new.Goals as goal
 

@@ -1,0 +1,7 @@
+-- For callers: members of lists, rotations of faces, expressions of vectors, gaps, and the sides of the box.
+pub use Rattle.grid.proofs.Members.{IsIn, count_by-cons, count_by-cons_yes, count_by-cons_no, count_by-found, count_by-le, count_by-any, count_by-map, count_by-same}
+pub use Rattle.grid.proofs.Rotations.{IsRotation, equal3-refl, rotation-from, rotation-to, rotation-reversed, rotation-back, Same3, rotations-same, has3-cases, rotation-corner}
+pub use Rattle.grid.proofs.VectorExpressions.{coordinates_then, scaled_, plus_, length_, squares_, x_, y_, z_, m_, at_, zero_, one_}
+pub use Rattle.grid.proofs.Gaps.{sq_gap-weighted_gap, square_is, squares_are, product-Positive, gap_of_near}
+unfoldable pub use Rattle.grid.proofs.Gaps.{weighted_gap}
+pub use Rattle.grid.proofs.SideLemmas.{side_bits-IsOn}
