@@ -59,7 +59,8 @@ impl Store {
         ensures view { IfOk result (λ s. s ≡ record { parts = parts_from mesh.now; at_begin = None; side = side }) }
         ensures mesh { IfOk result (λ s. mesh_in s.parts ≡ mesh_of mesh.now) }
     {
-        let slots = filling::filled(alloc, mesh)?;
+        let mut slots = filling::filled(alloc, mesh)?;
+        slots.settle()?;
         let tracked = filling::tracking(alloc, mesh.tracked.as_slice(), mesh.points.len())?;
         Ok(Store {
             slots,
@@ -71,11 +72,13 @@ impl Store {
         })
     }
 
-    /// Opens a transaction.
+    /// Opens a transaction. May take memory, so that searches are fast, and does without where there is
+    /// none.
     pub fn begin(&mut self)
         requires { self.old.at_begin ≡ None }
         ensures { self.new ≡ record self.old { at_begin = Some self.old.parts } }
     {
+        let _ = self.slots.settle();
         self.opened = true;
     }
 

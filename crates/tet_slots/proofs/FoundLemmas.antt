@@ -14,6 +14,7 @@ use Rattle.grid.specs.Simplices.{has, Rises}
 use Rattle.tet_slots.specs.declared.bins.Bin.{Bin}
 use Rattle.tet_slots.specs.Bins.{same_bin, numbers_in, in_bin}
 use Rattle.tet_slots.proofs.BinLemmas.{same_bin-true}
+use Rattle.tet_slots.proofs.PointListLemmas.{shorter}
 use Rattle.tet_slots.specs.Quests.{Grows, Finds}
 
 -- ---- membership
@@ -44,9 +45,6 @@ has-filter test (x ∷ xs) i =
     first-in (test x) x (filter test xs) i
     ∙ (ap (λ (t : Bool). (test x && nat_eq x i) || t) (has-filter test xs i)
     ∙ either-passes (test x) (test i) (nat_eq x i) (has xs i) (λ e. ap test (eqb-true x i e)))
-
-shorter : (j n : ℕ) → suc j < suc n → j < n
-shorter j n h = omega arith
 
 pub has-from_Contains : (xs : List ℕ) (i : ℕ) → Contains xs i → has xs i ≡ true
 has-from_Contains xs i (k, l, e) = at xs k l e

@@ -2,7 +2,7 @@
 use Rattle.std.proofs.Common.{◌≡◌, ℕ, ◌<◌, Bool, true, false, ◌&&◌, List, length, refl, sym, ◌∙◌, ap, inl, inr}
 use Rattle.std.specs.List.{range_with_len}
 use Rattle.std.specs.List.Sorted.{IsStrictlyIncreasing}
-use Rattle.std.proofs.lemmas.Bool.{cases_lt, false≢true}
+use Rattle.std.proofs.lemmas.Bool.{and_right, cases_lt, false≢true}
 use Rattle.std.proofs.lemmas.List.{get_or_past}
 use Rattle.grid.specs.Simplices.{has}
 use Rattle.tet_slots.specs.declared.slot.Slot.{Slot}
@@ -20,11 +20,7 @@ module _ (P : Slot → Bool) (none : P no_slot ≡ false) (slots : List Slot) wh
 
   in-range : (b : Bool) (i : ℕ) → P (slot_at slots i) ≡ b → (has (range_with_len 0 (length slots)) i && b) ≡ b
   in-range true i h = ap (λ (t : Bool). t && true) (has-range (length slots) i (passes-there i h))
-  in-range false i h = and_false (has (range_with_len 0 (length slots)) i)
-    where
-      and_false : (t : Bool) → (t && false) ≡ false
-      and_false true = refl
-      and_false false = refl
+  in-range false i h = and_right (has (range_with_len 0 (length slots)) i) false refl
 
   pub has-numbers : (i : ℕ) → has (numbers_of P 0 slots) i ≡ P (slot_at slots i)
   has-numbers i =

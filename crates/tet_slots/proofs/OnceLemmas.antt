@@ -1,23 +1,16 @@
 -- Lists that have each number once.
-use Rattle.std.proofs.Common.{Some, ◌≡◌, ℕ, Bool, true, false, not, cond, ◌&&◌, ◌||◌, nat_eq, Option, List, [], ◌∷◌, ◌++◌, refl, sym, subst, ◌∙◌, ap, inl, inr}
+use Rattle.std.proofs.Common.{Some, ◌≡◌, ℕ, Bool, true, false, not, cond, ◌||◌, nat_eq, Option, List, [], ◌∷◌, ◌++◌, refl, sym, subst, ◌∙◌, ap, inl, inr}
 use Rattle.std.specs.List.{filter}
 use Rattle.std.specs.Prelude.{option_to_list}
-use Rattle.std.proofs.lemmas.Bool.{cases_Bool, eq-eqb, eqb-true, false≢true}
+use Rattle.std.proofs.lemmas.Bool.{and_left, cases_Bool, eq-eqb, eqb-true, false≢true, or_parts}
 use Rattle.grid.specs.Simplices.{has, AreDifferent}
 use Rattle.tet_slots.specs.PointLists.{and_last, but}
 use Rattle.tet_slots.proofs.PointListLemmas.{has-push}
 use Rattle.tet_slots.proofs.FoundLemmas.{has-filter}
 
-no-more : (a b : Bool) → a ≡ false → (a && b) ≡ false
-no-more a b h = ap (λ (t : Bool). t && b) h
-
-neither : (a b : Bool) → (a || b) ≡ false → (a ≡ false) × (b ≡ false)
-neither true b h = absurd (false≢true (sym h))
-neither false b h = (refl, h)
-
 pub AreDifferent-filter : (test : ℕ → Bool) (xs : List ℕ) → AreDifferent xs → AreDifferent (filter test xs)
 AreDifferent-filter test [] d = tt
-AreDifferent-filter test (x ∷ xs) d = by (test x) (has-filter test xs x ∙ no-more (has xs x) (test x) d.0) (AreDifferent-filter test xs d.1)
+AreDifferent-filter test (x ∷ xs) d = by (test x) (has-filter test xs x ∙ and_left (has xs x) (test x) d.0) (AreDifferent-filter test xs d.1)
   where
     by : (t : Bool) → has (filter test xs) x ≡ false → AreDifferent (filter test xs) → AreDifferent (cond t (x ∷ filter test xs) (filter test xs))
     by true none rest = (none, rest)
@@ -26,7 +19,7 @@ AreDifferent-filter test (x ∷ xs) d = by (test x) (has-filter test xs x ∙ no
 AreDifferent-push : (xs : List ℕ) (n : ℕ) → AreDifferent xs → has xs n ≡ false → AreDifferent (and_last n xs)
 AreDifferent-push [] n d h = (refl, tt)
 AreDifferent-push (x ∷ xs) n d h =
-    let parts = neither (nat_eq x n) (has xs n) h in
+    let parts = or_parts (nat_eq x n) (has xs n) h in
     (has-push xs n x ∙ (ap (λ (t : Bool). t || nat_eq n x) d.0 ∙ apart n x parts.0), AreDifferent-push xs n d.1 parts.1)
   where
     apart : (n x : ℕ) → nat_eq x n ≡ false → nat_eq n x ≡ false
@@ -47,7 +40,7 @@ AreDifferent-taken false k xs d = d
 but-push : (k : ℕ) (xs : List ℕ) → AreDifferent (and_last k xs) → but k (and_last k xs) ≡ xs
 but-push k [] d = ap (λ (t : Bool). cond (not t) (k ∷ []) []) (eq-eqb k k refl)
 but-push k (x ∷ xs) d =
-    let parts = neither (has xs x) (nat_eq k x) (sym (has-push xs k x) ∙ d.0) in
+    let parts = or_parts (has xs x) (nat_eq k x) (sym (has-push xs k x) ∙ d.0) in
     ap (λ (t : Bool). cond (not t) (x ∷ but k (and_last k xs)) (but k (and_last k xs))) (apart parts.1)
     ∙ ap (λ (ys : List ℕ). x ∷ ys) (but-push k xs d.1)
   where

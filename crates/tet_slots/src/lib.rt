@@ -6,6 +6,7 @@ mod bins;
 mod levels;
 mod meeting;
 mod place;
+mod placing;
 mod point_lists;
 mod search;
 mod slot;

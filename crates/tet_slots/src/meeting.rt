@@ -1,6 +1,6 @@
 // The search for the slots that meet a box, through the bins.
 ghost use Rattle.grid.specs.Simplices.{IsTet, has};
-ghost use Rattle.std.specs.Prelude.{All, OnOk, length, nat_le, slice_index_or, true, ℕ, ◌&&◌, ◌-◌, ◌<◌, ◌≡◌, ◌≤◌};
+ghost use Rattle.std.specs.Prelude.{All, OnOk, length, nat_le, slice_index_or, true, ℕ, ◌&&◌, ◌-◌, ◌<◌, ◌^◌, ◌≡◌, ◌≤◌};
 ghost use Rattle.indexmap.specs.IndexMap.{keys};
 ghost use Rattle.tet_slots.specs.Bins.{in_bin};
 ghost use Rattle.tet_slots.specs.Levels.{in_place};
@@ -66,6 +66,19 @@ impl<'a> Quest<'a> {
     {
         for level in 0..levels.len() {
             self.find_in_level(&levels[level], level, into)?;
+        }
+        Ok(())
+    }
+
+    /// Adds what is found among the slots from the first one on.
+    pub(crate) fn find_from(&self, first: usize, into: &mut Vec<u32>) -> Result<(), Memory>
+        requires corners { All (λ s. IsTet (length self.now.points.now) s.tet.0) self.now.slots.now }
+        requires few { length self.now.slots.now ≤ 2 ^ 31 }
+        ensures grows { OnOk result (Grows (passes self.now.points.now self.now.slots.now self.now.lo self.now.hi) into.old.items into.new.items) }
+        ensures found { OnOk result ((i : ℕ) → first ≤ i → i < length self.now.slots.now → passes self.now.points.now self.now.slots.now self.now.lo self.now.hi i ≡ true → has into.new.items i ≡ true) }
+    {
+        for i in first..self.slots.len() {
+            self.find_in_list(&[i as u32], into)?;
         }
         Ok(())
     }

@@ -7,10 +7,10 @@ ghost use Rattle.tet_slots.specs.Slots.{IsSound, IsUnused, SlotLists, is_forgott
 
 use crate::bins::Level;
 use crate::meeting::Quest;
-use crate::place::{self, Place};
+use crate::place::Place;
 use crate::point_lists::{self, SlotList};
 use crate::slot::Slot;
-use crate::{levels, search, sorting};
+use crate::{placing, search, sorting};
 use grid::{Memory, Point, Tet};
 use smallvec::SmallVec;
 use std::alloc::Global;
@@ -79,23 +79,31 @@ impl Slots {
         ensures ok { OnOk result (self.new ≡ record self.old { slots = self.old.slots ++ record { tet = t; live = true } ∷ []; forgotten = self.old.forgotten ++ false ∷ [] }) }
         ensures err { OnErr result (self.new ≡ self.old) }
     {
-        let alloc = *self.slots.allocator();
         let number = self.slots.len() as u32;
-        let least = place::least_level(&self.places);
-        let place = place::place_of(&self.points, t, least);
         point_lists::enter(&mut self.lists, &t.0, number)?;
         let slot = Slot { tet: t, live: true };
         let Ok(()) = push_both(&mut self.slots, slot, &mut self.forgotten, false) else {
             point_lists::leave_last(&mut self.lists, &t.0);
             return Err(Memory);
         };
-        let Ok(()) = levels::add(alloc, &mut self.levels, &mut self.places, place, number) else {
-            let _ = self.slots.pop();
-            let _ = self.forgotten.pop();
-            point_lists::leave_last(&mut self.lists, &t.0);
-            return Err(Memory);
-        };
         Ok(number)
+    }
+
+    /// Puts the slots that are in no bin yet into theirs, so that searches find them sooner. After
+    /// Memory some may be left, and nothing else changed.
+    pub fn settle(&mut self) -> Result<(), Memory>
+        ensures { self.new ≡ self.old }
+    {
+        let alloc = *self.slots.allocator();
+        placing::settle(
+            alloc,
+            &self.points,
+            &self.slots,
+            &self.forgotten,
+            &mut self.places,
+            &mut self.levels,
+        )?;
+        Ok(())
     }
 
     /// Removes the last point.
@@ -114,13 +122,13 @@ impl Slots {
         ensures { self.new ≡ record self.old { slots = take (length self.old.slots - 1) self.old.slots; forgotten = take (length self.old.slots - 1) self.old.forgotten } }
     {
         let last = self.slots.len() - 1;
+        placing::leave(&mut self.levels, &self.places, last as u32);
+        self.places.truncate(last);
         if !self.forgotten[last] {
             point_lists::leave_last(&mut self.lists, &self.slots[last].tet.0);
-            levels::leave(&mut self.levels, self.places[last], last as u32);
         }
         let _ = self.slots.pop();
         let _ = self.forgotten.pop();
-        let _ = self.places.pop();
     }
 
     /// Makes a live slot dead.
@@ -151,7 +159,7 @@ impl Slots {
         ensures { self.new ≡ record self.old { forgotten = slice_set self.old.forgotten slot true } }
     {
         point_lists::leave(&mut self.lists, &self.slots[slot as usize].tet.0, slot);
-        levels::leave(&mut self.levels, self.places[slot as usize], slot);
+        placing::leave(&mut self.levels, &self.places, slot);
         self.forgotten[slot as usize] = true;
     }
 
@@ -204,6 +212,7 @@ impl Slots {
             hi,
         };
         quest.find(&self.levels, into)?;
+        quest.find_from(self.places.len(), into)?;
         sorting::rise(into);
         Ok(())
     }

@@ -30,12 +30,12 @@ tracking-requires-clause-triples c =
 pub tracking-requires-clause-ordered : goal.tracking-requires-clause-ordered
 tracking-requires-clause-ordered c = rw c.as_slice.ensures c.requires.well_formed.ordered
 
-parts-are : (c : After-new) → parts_of c.in_ok-slots.slots c.in_ok-tracked.tracked ≡ parts_from c.args.mesh.now
-parts-are c = λ i. parts_of (c.in_ok-slots.ensures i) ((c.in_ok-tracked.ensures ∙ ap (λ (fs : List Face). map (λ f. (f, true)) fs) c.as_slice.ensures) i)
+parts-are : (c : After-new) → parts_of c.settle.new.self c.in_ok-tracked.tracked ≡ parts_from c.args.mesh.now
+parts-are c = λ i. parts_of ((c.settle.ensures ∙ c.in_ok-slots.ensures) i) ((c.in_ok-tracked.ensures ∙ ap (λ (fs : List Face). map (λ f. (f, true)) fs) c.as_slice.ensures) i)
 
-one-each : (c : After-new) → length c.in_ok-slots.slots.forgotten ≡ length c.in_ok-slots.slots.slots
+one-each : (c : After-new) → length c.settle.new.self.forgotten ≡ length c.settle.new.self.slots
 one-each c =
-    let e = c.in_ok-slots.ensures in
+    let e = c.settle.ensures ∙ c.in_ok-slots.ensures in
     let tets = c.args.mesh.now.tets in
     ap (λ (s : SlotLists). length s.forgotten) e ∙ (length-map tets (λ _. false) ∙ (sym (length-map tets (λ (t : Tet). t.0)) ∙ (sym (length-map (corners_of tets) live_slot) ∙ ap (λ (s : SlotLists). length s.slots) (sym e))))
 
@@ -45,7 +45,7 @@ invariant_of-result c =
     record {
       can = rw c.new.ensures tt;
       leave = rw c.new.ensures tt;
-      forget = rw c.new.ensures (CanForget-none c.in_ok-slots.slots (CanRevive-none c.in_ok-slots.slots (one-each c)));
+      forget = rw c.new.ensures (CanForget-none c.settle.new.self (CanRevive-none c.settle.new.self (one-each c)));
       none = λ _. c.new.ensures;
       sound = rw side (subst (IsSound c.args.side) (sym (parts-are c)) (sound-first c.args.side c.args.mesh.now c.requires));
     }
