@@ -41,7 +41,7 @@ among-Contains x fs h = at fs h.0 h.1 h.2
     at (f ∷ fs) (suc k) l e = or_right (bytes_eq x f.0) (is_among x (triples_of fs)) (at fs k (less k (length fs) l) e)
 
 -- ---- what a test lets pass
-triples-filter : (p : List ℕ → Bool) (fs : List Face) → triples_of (filter (λ f. p f.0) fs) ≡ filter p (triples_of fs)
+pub triples-filter : (p : List ℕ → Bool) (fs : List Face) → triples_of (filter (λ f. p f.0) fs) ≡ filter p (triples_of fs)
 triples-filter p [] = refl
 triples-filter p (f ∷ fs) = elim (cases_Bool (p f.0)) [
   | inl e ↦ rw e (ap (λ (ts : List (List ℕ)). f.0 ∷ ts) (triples-filter p fs))

@@ -6,6 +6,6 @@ pub use Rattle.mesh_store.proofs.MeshLemmas.{well_formed, within}
 pub use Rattle.mesh_store.proofs.Killing.{tets-numbers}
 pub use Rattle.mesh_store.proofs.Moves.{among-filter}
 pub use Rattle.mesh_store.proofs.Exchanged.{is_in-tracked}
-pub use Rattle.mesh_store.proofs.FaceSearches.{Contains-among, among-Contains, chosen-is, at-corner-is}
+pub use Rattle.mesh_store.proofs.FaceSearches.{Contains-among, among-Contains, triples-filter, chosen-is, at-corner-is}
 pub use Rattle.mesh_store.proofs.Finding.{IsFirst, outside-is}
 pub use Rattle.mesh_store.proofs.SwapMeshes.{face-first, face-second, face-corners}

@@ -1,6 +1,7 @@
 -- The labels of a table's row for a tetrahedron: its corners by rank, and the new points of the cuts at its edges.
-use Rattle.std.specs.Prelude.{◌≡◌, ℕ, ◌+◌, ◌<◌, Bool, ◌&&◌, nat_eq, cond, List, [], ◌∷◌, map, get_or, Option, None, Some, is_some}
-use Rattle.std.specs.List.{filter, AllByRecursion}
+use Rattle.std.specs.Prelude.{◌≡◌, ℕ, ◌+◌, ◌<◌, Bool, true, false, ◌&&◌, nat_eq, cond, List, [], ◌∷◌, map, get_or, Option, None, Some, is_some}
+use Rattle.std.specs.List.{filter, AllByRecursion, AllWithin}
+use Rattle.std.specs.List.Sorted.{IsPartitionPoint}
 use Rattle.grid.specs.Meshes.{is_below}
 use Rattle.mesh_types.specs.declared.cut.Cut.{Cut}
 use Rattle.mesh_types.specs.CutLists.{ends_of}
@@ -14,6 +15,14 @@ numbered k (e ∷ es) = record { first = e.u; second = e.v; label = k } ∷ numb
 -- the cut comes before one from u to v
 abbrev pub is_before : ℕ → ℕ → Cut → Bool
 is_before u v e = is_below (ends_of e) (u ∷ v ∷ [])
+
+-- the cuts at the first places come before one from u to v
+abbrev pub AreBefore : ℕ → ℕ → List Cut → ℕ → Type 0
+AreBefore u v es i = AllWithin (λ e. is_before u v e ≡ true) es 0 i
+
+-- the place of the first cut that does not come before one from u to v
+abbrev pub IsPlace : ℕ → ℕ → List Cut → ℕ → Type 0
+IsPlace u v es i = IsPartitionPoint (λ e. is_before u v e ≡ true) (λ e. is_before u v e ≡ false) es i
 
 -- the edge joins u and v, in this order
 abbrev pub joins : ℕ → ℕ → RankEdge → Bool

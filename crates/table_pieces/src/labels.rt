@@ -1,12 +1,15 @@
 // The new points at the edges of a tetrahedron.
 ghost use Rattle.grid.specs.Meshes.{Ordered, is_below};
+ghost use Rattle.grid.specs.Simplices.{Rises};
 ghost use Rattle.mesh_types.specs.CutLists.{ends_of};
-ghost use Rattle.std.specs.List.Sorted.{IsPartitionPoint};
 ghost use Rattle.std.specs.List.{filter};
-ghost use Rattle.std.specs.Prelude.{[], false, length, map, true, ◌+◌, ◌<◌, ◌^◌, ◌∷◌, ◌≡◌, ◌≤◌};
-ghost use Rattle.table_pieces.specs.Labels.{AreLabels, bit, edge_at, is_before, joins, mask_of, number_or_none, numbered};
+ghost use Rattle.std.specs.Prelude.{[], false, length, map, true, ◌+◌, ◌*◌, ◌<◌, ◌^◌, ◌∷◌, ◌≡◌, ◌≤◌};
+ghost use Rattle.table_pieces.specs.Labels.{AreBefore, AreLabels, IsPlace, bit, edge_at, is_before, joins, mask_of, number_or_none, numbered};
 
 use mesh_types::Cut;
+
+// So many cuts are looked at one by one before the others are searched.
+const STEPS: usize = 8;
 
 /// The numbers of the labels 0 to 9, and the set of the edges that are cut. A label that the set has not
 /// has the number 0.
@@ -21,15 +24,22 @@ pub(crate) struct Labels {
 pub(crate) fn labels_of(cuts: &[Cut], first: u32, corners: [u32; 4]) -> Labels
     requires room { first + length cuts.now < 2 ^ 32 }
     requires ordered { Ordered (map ends_of cuts.now) }
+    requires rise { Rises corners }
     ensures { AreLabels first cuts.now corners result.numbers result.mask }
 {
     let [a, b, c, d] = corners;
-    let ab = point_between(cuts, first, a, b);
-    let ac = point_between(cuts, first, a, c);
-    let ad = point_between(cuts, first, a, d);
-    let bc = point_between(cuts, first, b, c);
-    let bd = point_between(cuts, first, b, d);
-    let cd = point_between(cuts, first, c, d);
+    let place_ab = place_of(cuts, 0, a, b);
+    let place_ac = place_near(cuts, place_ab, a, c);
+    let place_ad = place_near(cuts, place_ac, a, d);
+    let place_bc = place_of(cuts, place_ad, b, c);
+    let place_bd = place_near(cuts, place_bc, b, d);
+    let place_cd = place_of(cuts, place_bd, c, d);
+    let ab = point_at(cuts, first, place_ab, a, b);
+    let ac = point_at(cuts, first, place_ac, a, c);
+    let ad = point_at(cuts, first, place_ad, a, d);
+    let bc = point_at(cuts, first, place_bc, b, c);
+    let bd = point_at(cuts, first, place_bd, b, d);
+    let cd = point_at(cuts, first, place_cd, c, d);
     Labels {
         numbers: [
             a,
@@ -47,13 +57,14 @@ pub(crate) fn labels_of(cuts: &[Cut], first: u32, corners: [u32; 4]) -> Labels
     }
 }
 
-/// The number of the new point of the cut from u to v, if there is one.
-fn point_between(cuts: &[Cut], first: u32, u: u32, v: u32) -> Option<u32>
+/// The number of the new point of the cut from u to v, if there is one, by the place of the first cut
+/// that is not before it.
+fn point_at(cuts: &[Cut], first: u32, place: usize, u: u32, v: u32) -> Option<u32>
     requires room { first + length cuts.now < 2 ^ 32 }
     requires ordered { Ordered (map ends_of cuts.now) }
+    requires place { IsPlace u v cuts.now place }
     ensures { filter (joins u v) (numbered first cuts.now) ≡ edge_at u v result }
 {
-    let place = place_of(cuts, u, v);
     if place < cuts.len() && cuts[place].u == u && cuts[place].v == v {
         Some(first + place as u32)
     } else {
@@ -61,13 +72,34 @@ fn point_between(cuts: &[Cut], first: u32, u: u32, v: u32) -> Option<u32>
     }
 }
 
-/// The place of the first cut that is not before one from u to v.
-fn place_of(cuts: &[Cut], u: u32, v: u32) -> usize
-    requires { Ordered (map ends_of cuts.now) }
+/// The place of the first cut that is not before one from u to v, as those before `from` are, where it
+/// is likely to be close to `from`.
+fn place_near(cuts: &[Cut], from: usize, u: u32, v: u32) -> usize
+    requires ordered { Ordered (map ends_of cuts.now) }
+    requires within { from ≤ length cuts.now }
+    requires passed { AreBefore u v cuts.now from }
     ensures bound { result ≤ length cuts.now }
-    ensures point { IsPartitionPoint (λ e. is_before u v e ≡ true) (λ e. is_before u v e ≡ false) cuts.now result }
+    ensures place { IsPlace u v cuts.now result }
 {
-    cuts.partition_point(
+    let end = from + (cuts.len() - from).min(STEPS);
+    for place in from..end {
+        if !comes_before(&cuts[place], u, v) {
+            return place;
+        }
+    }
+    place_of(cuts, end, u, v)
+}
+
+/// The place of the first cut that is not before one from u to v, as those before `from` are.
+fn place_of(cuts: &[Cut], from: usize, u: u32, v: u32) -> usize
+    requires ordered { Ordered (map ends_of cuts.now) }
+    requires within { from ≤ length cuts.now }
+    requires passed { AreBefore u v cuts.now from }
+    ensures bound { result ≤ length cuts.now }
+    ensures place { IsPlace u v cuts.now result }
+{
+    let rest = &cuts[from..];
+    from + rest.partition_point(
         |cut: &Cut| -> bool
             ensures { result ≡ is_before u v cut.now }
         { comes_before(cut, u, v) },
@@ -77,7 +109,14 @@ fn place_of(cuts: &[Cut], u: u32, v: u32) -> usize
 fn comes_before(cut: &Cut, u: u32, v: u32) -> bool
     ensures { result ≡ is_before u v cut.now }
 {
-    cut.u < u || (cut.u == u && cut.v < v)
+    both_ends(cut.u, cut.v) < both_ends(u, v)
+}
+
+// Both ends as one number, so that a search compares once.
+fn both_ends(u: u32, v: u32) -> u64
+    ensures { result ≡ u * 2 ^ 32 + v }
+{
+    u64::from(u) * 0x1_0000_0000 + u64::from(v)
 }
 
 fn number(point: Option<u32>) -> u32

@@ -1,9 +1,14 @@
-use Rattle.std.proofs.Common.{ℕ, List, ◌++◌, ◌∙◌, ap, map}
+use Rattle.std.proofs.Common.{ℕ, List, ◌++◌, ◌∙◌, ap, map, subst, sym}
+use Rattle.grid.specs.Simplices.{Rises}
 use Rattle.grid.specs.Views.{corners_of}
+use Rattle.mesh_types.proofs.ForCallers.{rising-Rises}
 use Rattle.table_pieces.specs.Labels.{arranged, number_at}
 use Rattle.table_pieces.proofs.Names.{pieces-are}
 use Rattle.table_pieces.proofs.Rows.{row-few, row-is}
 use Rattle.table_pieces.proofs.making.push_pieces.Goals as goal
+
+pub labels_of-labels-requires-clause-rise : goal.labels_of-labels-requires-clause-rise
+labels_of-labels-requires-clause-rise c = subst Rises (sym c.rising-corners.ensures) (rising-Rises c.args.tet.0 c.requires.corners.different)
 
 pub push_row-requires-clause-labels : goal.push_row-requires-clause-labels
 push_row-requires-clause-labels c =
