@@ -1,7 +1,7 @@
 -- The first slot that passes a test.
 use Rattle.std.proofs.Common.{◌≡◌, ◌⊎◌, ℕ, zero, suc, ◌+◌, ◌<◌, ◌≤◌, Bool, true, false, ◌&&◌, ◌||◌, cond, nat_lt, if◌then◌else◌, Option, None, Some, List, [], ◌∷◌, ◌++◌, length, take, get_or, All, refl, sym, ap, ◌∙◌, subst, inl, inr, arith}
 use Rattle.std.specs.List.{list_any, AllByRecursion as Each}
-use Rattle.std.proofs.lemmas.Bool.{cases_Bool, true≢false}
+use Rattle.std.proofs.lemmas.Bool.{cases_Bool, true≢false, and_parts, and_from, or_cases, false_from_ne_true}
 use Rattle.std.proofs.lemmas.Bool.Decides.{nat_tests}
 use Rattle.std.proofs.lemmas.List.Elements.{All-from_recursion, recursion_from_All}
 use Rattle.grid.specs.declared.shapes.Point.{Point}
@@ -20,11 +20,11 @@ use Rattle.grid.specs.declared.shapes.Tri.{Tri}
 use Rattle.grid.specs.Meshes.{Mesh}
 use Rattle.mesh_types.specs.Phases.{wanted_in, wanted, is_unresolved}
 use Rattle.mesh_types.specs.Tracking.{in_order_once}
-use Rattle.mesh_types.proofs.ForCallers.{is_among, is_among-in_order_once, equal_to, equal_from}
+use Rattle.mesh_types.proofs.ForCallers.{same_bools, is_among, is_among-in_order_once, equal_to, equal_from}
 use Rattle.cutting_rule.specs.declared.edge.Edge.{Edge}
 use Rattle.cutting_rule.specs.Edges.{numbers_of}
+use Rattle.cutter.proofs.Near.{AreFrom, all, first, rest}
 use Rattle.cutter.specs.First.{earlier, head, IsAtMost, IsFirstSlot, has_one_of, is_open}
-use Rattle.cutting_rule.proofs.ForCallers.{same_bools}
 
 -- ---- the lower of two
 at_most-left : (a b : Option ℕ) (j : ℕ) → IsAtMost a j → IsAtMost (earlier a b) j
@@ -45,10 +45,6 @@ one_of (Some x) (Some y) k h = elim (cases_Bool (nat_lt x y)) [
 one_of (Some x) None k h = inl h
 one_of None b k h = inr h
 
-or_cases' : (p q : Bool) → (p || q) ≡ true → (p ≡ true) ⊎ (q ≡ true)
-or_cases' true q h = inl refl
-or_cases' false q h = inr h
-
 -- where a slot passes p or q just where it passes r
 pub first-both : (p q r : Slot → Bool) (slots : List Slot) (a b : Option ℕ) → ((s : Slot) → r s ≡ (p s || q s)) → IsFirstSlot p slots a → IsFirstSlot q slots b → IsFirstSlot r slots (earlier a b)
 first-both p q r slots a b is h g = record {
@@ -56,7 +52,7 @@ first-both p q r slots a b is h g = record {
     | inl f ↦ ((h.passes k f).0, is (slot_at slots k) ∙ ap (λ (t : Bool). t || q (slot_at slots k)) (h.passes k f).1)
     | inr f ↦ ((g.passes k f).0, is (slot_at slots k) ∙ (ap (λ (t : Bool). p (slot_at slots k) || t) (g.passes k f).1 ∙ or_true (p (slot_at slots k))))
   ];
-  first = λ j lt e. elim (or_cases' (p (slot_at slots j)) (q (slot_at slots j)) (sym (is (slot_at slots j)) ∙ e)) [
+  first = λ j lt e. elim (or_cases (p (slot_at slots j)) (q (slot_at slots j)) (sym (is (slot_at slots j)) ∙ e)) [
     | inl f ↦ at_most-left a b j (h.first j lt f)
     | inr f ↦ at_most-right a b j (g.first j lt f)
   ];
@@ -66,9 +62,6 @@ first-both p q r slots a b is h g = record {
     or_true true = refl
     or_true false = refl
 
-pub first-none : (p : Slot → Bool) (slots : List Slot) → ((s : Slot) → p s ≡ false) → IsFirstSlot p slots None
-first-none p slots never = record { passes = λ k e. cc; first = λ j lt e. absurd (true≢false (sym e ∙ never (slot_at slots j))) }
-
 pub first-same : (p q : Slot → Bool) (slots : List Slot) (a b : Option ℕ) → ((s : Slot) → q s ≡ p s) → a ≡ b → IsFirstSlot p slots a → IsFirstSlot q slots b
 first-same p q slots a b is e h = subst (IsFirstSlot q slots) e (record {
   passes = λ k f. ((h.passes k f).0, is (slot_at slots k) ∙ (h.passes k f).1);
@@ -76,15 +69,6 @@ first-same p q slots a b is e h = subst (IsFirstSlot q slots) e (record {
 })
 
 -- ---- the first of the numbers that a search finds
-abbrev AreFrom : List Slot → ℕ → List Slot → Type 0
-AreFrom slots k ss = (i : ℕ) → slot_at slots (i + k) ≡ slot_at ss i
-
-rest : (slots : List Slot) (k : ℕ) (s : Slot) (ss : List Slot) → AreFrom slots k (s ∷ ss) → AreFrom slots (suc k) ss
-rest slots k s ss h i = let e : i + suc k ≡ suc i + k = omega arith in ap (slot_at slots) e ∙ h (suc i)
-
-here : (slots : List Slot) (k : ℕ) (s : Slot) (ss : List Slot) → AreFrom slots k (s ∷ ss) → slot_at slots k ≡ s
-here slots k s ss h = let e : k ≡ 0 + k = omega arith in ap (slot_at slots) e ∙ h 0
-
 head-first : (p : Slot → Bool) (slots : List Slot) (k : ℕ) (ss : List Slot) → AreFrom slots k ss → k + length ss ≡ length slots → (j : ℕ) → k ≤ j → j < length slots → p (slot_at slots j) ≡ true → IsAtMost (head (found_numbers p k ss)) j
 head-first p slots k [] h long j low lt e = absurd (omega (arith, long, low, lt))
 head-first p slots k (s ∷ ss) h long j low lt e = elim (cases_Bool (p s)) [
@@ -92,7 +76,7 @@ head-first p slots k (s ∷ ss) h long j low lt e = elim (cases_Bool (p s)) [
   | inr f ↦
       let apart : (k ≡ j) ⊎ (suc k ≤ j) = grind arith in
       elim apart [
-        | inl g ↦ absurd (true≢false (sym e ∙ (ap (λ i. p (slot_at slots i)) (sym g) ∙ (ap p (here slots k s ss h) ∙ f))))
+        | inl g ↦ absurd (true≢false (sym e ∙ (ap (λ i. p (slot_at slots i)) (sym g) ∙ (ap p (first slots k s ss h) ∙ f))))
         | inr g ↦ rw f (head-first p slots (suc k) ss (rest slots k s ss h) (omega arith) j g lt e)
       ]
 ]
@@ -102,7 +86,7 @@ head-passes p slots k [] h long j e = cc
 head-passes p slots k (s ∷ ss) h long j e = elim (cases_Bool (p s)) [
   | inl f ↦
       let is : k ≡ j = some_same k j (sym (ap (λ (b : Bool). head (cond b (k ∷ found_numbers p (suc k) ss) (found_numbers p (suc k) ss))) f) ∙ e) in
-      (omega (arith, is), ap (λ i. p (slot_at slots i)) (sym is) ∙ (ap p (here slots k s ss h) ∙ f))
+      (omega (arith, is), ap (λ i. p (slot_at slots i)) (sym is) ∙ (ap p (first slots k s ss h) ∙ f))
   | inr f ↦ head-passes p slots (suc k) ss (rest slots k s ss h) (omega arith) j (sym (ap (λ (b : Bool). head (cond b (k ∷ found_numbers p (suc k) ss) (found_numbers p (suc k) ss))) f) ∙ e)
 ]
   where
@@ -111,10 +95,9 @@ head-passes p slots k (s ∷ ss) h long j e = elim (cases_Bool (p s)) [
 
 pub first-found : (p : Slot → Bool) (slots : List Slot) → IsFirstSlot p slots (head (found_numbers p 0 slots))
 first-found p slots =
-    let all : AreFrom slots 0 slots = λ i. let e : i + 0 ≡ i = omega arith in ap (slot_at slots) e in
     record {
-      passes = λ k e. head-passes p slots 0 slots all (omega arith) k e;
-      first = λ j lt e. head-first p slots 0 slots all (omega arith) j (omega arith) lt e;
+      passes = λ k e. head-passes p slots 0 slots (all slots) (omega arith) k e;
+      first = λ j lt e. head-first p slots 0 slots (all slots) (omega arith) j (omega arith) lt e;
     }
 
 -- ---- naming the first tetrahedron
@@ -224,32 +207,17 @@ first-of_four m t slots a b c d ha hb hc hd =
     at true a b c false = refl
     at false a b c d = refl
 
-false-from : (p : Bool) → (p ≡ true → ⊥) → p ≡ false
-false-from true f = absurd (f refl)
-false-from false f = refl
-
-and_left : (p q : Bool) → (p && q) ≡ true → p ≡ true
-and_left true q e = refl
-and_left false q e = e
-
-and_right : (p q : Bool) → (p && q) ≡ true → q ≡ true
-and_right true q e = e
-and_right false q e = cc
-
-and_both : (p q : Bool) → p ≡ true → q ≡ true → (p && q) ≡ true
-and_both p q e f = rw (e, f) refl
-
 -- no slot is open
 pub none-open : (m : Mesh) (t : Tri) (slots : List Slot) → live_tets slots ≡ m.tets → IsFirstSlot (is_open m t) slots None → All (λ x. is_unresolved m t x ≡ false) m.tets
-none-open m t slots e h = subst (All (λ x. is_unresolved m t x ≡ false)) e (all-live (λ x. is_unresolved m t x ≡ false) slots (λ j lt live. false-from (is_unresolved m t (slot_at slots j).tet.0) (λ f. h.first j lt (and_both _ _ live f))))
+none-open m t slots e h = subst (All (λ x. is_unresolved m t x ≡ false)) e (all-live (λ x. is_unresolved m t x ≡ false) slots (λ j lt live. false_from_ne_true (is_unresolved m t (slot_at slots j).tet.0) (λ f. h.first j lt (and_from _ _ live f))))
 
 -- the first open slot
 pub first-open : (m : Mesh) (t : Tri) (slots : List Slot) (k : ℕ) (named : List Point) → live_tets slots ≡ m.tets → named ≡ points_of m.points (slot_at slots k).tet.0 → IsFirstSlot (is_open m t) slots (Some k) → NamesFirst m.points (λ x. is_unresolved m t x ≡ true) m.tets named
 first-open m t slots k named e is h =
     let at = h.passes k refl in
     subst (λ tets. NamesFirst m.points (λ x. is_unresolved m t x ≡ true) tets named) e
-    (names-first m.points (λ x. is_unresolved m t x ≡ true) slots k named at.0 (and_left _ _ at.1) (and_right _ _ at.1)
-    (λ j below live f. let low : k ≤ j = h.first j (omega (arith, at.0, below)) (and_both _ _ live f) in absurd (omega arith)) is)
+    (names-first m.points (λ x. is_unresolved m t x ≡ true) slots k named at.0 (and_parts _ _ at.1).0 (and_parts _ _ at.1).1
+    (λ j below live f. let low : k ≤ j = h.first j (omega (arith, at.0, below)) (and_from _ _ live f) in absurd (omega arith)) is)
 
 pub pair : (x : List ℕ) → length x ≡ 2 → x ≡ get_or x 0 0 ∷ get_or x 1 0 ∷ []
 pair [] e = cc e

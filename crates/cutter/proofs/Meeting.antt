@@ -1,5 +1,6 @@
 -- Tetrahedra of slots that meet a box about a triangle and touch its plane.
 use Rattle.std.proofs.Common.{◌≡◌, ℤ, ◌≤ℤ◌, Bool, true, false, ◌&&◌, ◌||◌, int_le, List, [], ◌∷◌, map, refl, sym, ap, ap₂, ◌∙◌, arith}
+use Rattle.std.proofs.lemmas.Bool.{and_parts}
 use Rattle.std.specs.List.{list_any}
 use Rattle.std.proofs.lemmas.Int.{ints}
 use Rattle.grid.specs.declared.shapes.Point.{Point}
@@ -9,14 +10,8 @@ use Rattle.tet_slots.specs.declared.slot.Slot.{Slot}
 use Rattle.tet_slots.specs.Searches.{overlaps, meets, meets_box}
 use Rattle.cutting_rule.specs.Bounds.{overlaps as overlap_along, is_met}
 use Rattle.cutting_rule.specs.Touching.{touches, IsReach}
+use Rattle.cutting_rule.proofs.ForCallers.{any-map, le-true}
 use Rattle.cutter.specs.Found.{is_touching}
-
-any-map : {X Y : Type 0} (test : Y → Bool) (f : X → Y) (xs : List X) → list_any test (map f xs) ≡ list_any (λ x. test (f x)) xs
-any-map test f [] = refl
-any-map test f (x ∷ xs) = ap (λ (b : Bool). test (f x) || b) (any-map test f xs)
-
-le-true : (a b : ℤ) → a ≤ℤ b → int_le a b ≡ true
-le-true a b h = grind (arith, ints)
 
 true-and : (p q : Bool) → p ≡ true → (p && q) ≡ q
 true-and true q e = refl
@@ -50,12 +45,8 @@ touching-met points t lo hi s h =
     move false b true = refl
     move false b false = refl
 
-and_left : (p q : Bool) → (p && q) ≡ true → p ≡ true
-and_left true q e = refl
-and_left false q e = e
-
 pub live-touching : (points : List Point) (t : Tri) (lo hi : Point) (s : Slot) → is_touching points t lo hi s ≡ true → s.live ≡ true
-live-touching points t lo hi s m = and_left s.live _ m
+live-touching points t lo hi s m = (and_parts s.live _ m).0
 
 pub not-touching : (points : List Point) (t : Tri) (lo hi : Point) (s : Slot) → s.live ≡ true → is_touching points t lo hi s ≡ false → (is_met lo hi (points_of points s.tet.0) && touches t (points_of points s.tet.0)) ≡ false
 not-touching points t lo hi s live m = at s.live _ live m

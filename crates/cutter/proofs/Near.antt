@@ -10,16 +10,16 @@ use Rattle.mesh_store.specs.Parts.{live_tets}
 use Rattle.cutter.specs.Found.{tets_at}
 
 -- the slots from k on are these
-abbrev AreFrom : List Slot → ℕ → List Slot → Type 0
+abbrev pub AreFrom : List Slot → ℕ → List Slot → Type 0
 AreFrom slots k ss = (i : ℕ) → slot_at slots (i + k) ≡ slot_at ss i
 
-rest : (slots : List Slot) (k : ℕ) (s : Slot) (ss : List Slot) → AreFrom slots k (s ∷ ss) → AreFrom slots (suc k) ss
+pub rest : (slots : List Slot) (k : ℕ) (s : Slot) (ss : List Slot) → AreFrom slots k (s ∷ ss) → AreFrom slots (suc k) ss
 rest slots k s ss h i = let e : i + suc k ≡ suc i + k = omega arith in ap (slot_at slots) e ∙ h (suc i)
 
-first : (slots : List Slot) (k : ℕ) (s : Slot) (ss : List Slot) → AreFrom slots k (s ∷ ss) → slot_at slots k ≡ s
+pub first : (slots : List Slot) (k : ℕ) (s : Slot) (ss : List Slot) → AreFrom slots k (s ∷ ss) → slot_at slots k ≡ s
 first slots k s ss h = let e : k ≡ 0 + k = omega arith in ap (slot_at slots) e ∙ h 0
 
-all : (slots : List Slot) → AreFrom slots 0 slots
+pub all : (slots : List Slot) → AreFrom slots 0 slots
 all slots i = let e : i + 0 ≡ i = omega arith in ap (slot_at slots) e
 
 module _ {Y : Type 0} (f : List ℕ → List Y) (p : Slot → Bool) (live : (s : Slot) → p s ≡ true → s.live ≡ true) (none : (s : Slot) → s.live ≡ true → p s ≡ false → f s.tet.0 ≡ []) where

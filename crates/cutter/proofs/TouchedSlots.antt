@@ -1,5 +1,5 @@
 -- The slots that a triangle touches, found by a search, and after cuts.
-use Rattle.std.proofs.Common.{◌≡◌, ℕ, zero, suc, ◌+◌, ◌<◌, ◌≤◌, Bool, true, false, ◌&&◌, cond, List, [], ◌∷◌, ◌++◌, length, map, take, drop, get_or, None, Some, All, refl, sym, ap, ◌∙◌, subst, inl, inr, arith, add-one, append_assoc}
+use Rattle.std.proofs.Common.{Vec, Global, ◌≡◌, ℕ, zero, suc, ◌+◌, ◌<◌, ◌≤◌, Bool, true, false, ◌&&◌, cond, List, [], ◌∷◌, ◌++◌, length, map, take, drop, get_or, None, Some, All, refl, sym, ap, ◌∙◌, subst, inl, inr, arith, add-one, append_assoc}
 use Rattle.std.specs.List.{filter, flat_map, AllByRecursion as Each}
 use Rattle.std.proofs.lemmas.Bool.{cases_Bool}
 use Rattle.std.proofs.lemmas.List.{append-nil, drop_all, map-append}
@@ -17,9 +17,11 @@ use Rattle.tet_slots.specs.declared.slot.Slot.{Slot}
 use Rattle.tet_slots.specs.Searches.{numbers_of, meets}
 use Rattle.tet_slots.specs.Slots.{slot_at, no_slot}
 use Rattle.cutting_rule.specs.Bounds.{is_met}
-use Rattle.cutting_rule.specs.Touching.{touches, phases_of, may_want, IsReach}
-use Rattle.cutter.specs.Found.{AreTouching, is_touching, picked, tets_at, touched_at}
+use Rattle.cutting_rule.specs.Touching.{touches, touch_of, phases_of, may_want, IsReach}
+use Rattle.cutting_rule.specs.declared.touch.Touch.{Touch}
+use Rattle.cutter.specs.Found.{AreTouching, is_touching, picked, picked_near, tets_at, touched_at}
 use Rattle.cutter.specs.declared.touching.Touched.{Touched}
+use Rattle.cutter.specs.declared.touching.Touching.{Touching}
 use Rattle.cutter.proofs.Near.{found-all}
 use Rattle.cutter.proofs.Meeting.{touching-met}
 
@@ -55,8 +57,10 @@ picks points slots t (k ∷ ms) = elim (cases_Bool (touches t (points_of points 
   | inr e ↦ rw e (picks points slots t ms)
 ]
 
-pub touching-found : (points : List Point) (slots : List Slot) (t : Tri) (lo hi : Point) (ms : List ℕ) (es : List Touched) → IsReach t lo hi → ms ≡ numbers_of (meets points lo hi) 0 slots → es ≡ flat_map (picked points slots t) ms → AreTouching points slots t lo hi es
-touching-found points slots t lo hi ms es reach e f =
+pub touching-found : (points : List Point) (slots : List Slot) (t : Tri) (near : Touching) (ms : List ℕ) → IsReach t near.reach.lo near.reach.hi → ms ≡ numbers_of (meets points near.reach.lo near.reach.hi) 0 slots → near.slots.items ≡ flat_map (picked points slots t) ms → AreTouching points slots t near
+touching-found points slots t near ms reach e f =
+    let lo = near.reach.lo in
+    let hi = near.reach.hi in
     let g : ℕ → Bool = λ k. touches t (points_of points (slot_at slots k).tet.0) in
     let p = is_touching points t lo hi in
     let found = numbers_of (meets points lo hi) 0 slots in
@@ -69,7 +73,7 @@ touching-found points slots t lo hi ms es reach e f =
 
 -- ---- what is known of each
 abbrev pub no_touched : Touched
-no_touched = record { slot = 0; phases = [] }
+no_touched = record { slot = 0; touch = record { phases = []; signs = [] } }
 
 abbrev IsKnown : List Point → List Slot → Tri → Touched → Type 0
 IsKnown points slots t e = (e.slot < length slots) × (e ≡ touched_at points slots t e.slot)
@@ -112,8 +116,10 @@ same-each : (f g : ℕ → Touched) (P : ℕ → Type 0) → ((k : ℕ) → P k 
 same-each f g P same [] h = tt
 same-each f g P same (k ∷ ns) h = (same k h.0, same-each f g P same ns h.1)
 
-pub touching-grown : (t : Tri) (lo hi : Point) (old new : Parts) (es fs : List Touched) → IsGrown old new → All (λ (s : Slot). IsTet (length old.points) s.tet.0) old.slots → AreTouching old.points old.slots t lo hi es → fs ≡ filter (λ (e : Touched). (slot_at new.slots e.slot).live) es ++ map (touched_at new.points new.slots t) (numbers_of (is_touching new.points t lo hi) (length old.slots) (drop (length old.slots) new.slots)) → AreTouching new.points new.slots t lo hi fs
-touching-grown t lo hi old new es fs grown tets before e =
+pub touching-grown : (t : Tri) (old new : Parts) (near : Touching) (after : Vec Touched Global) → IsGrown old new → All (λ (s : Slot). IsTet (length old.points) s.tet.0) old.slots → AreTouching old.points old.slots t near → after.items ≡ filter (λ (e : Touched). (slot_at new.slots e.slot).live) near.slots.items ++ map (touched_at new.points new.slots t) (numbers_of (is_touching new.points t near.reach.lo near.reach.hi) (length old.slots) (drop (length old.slots) new.slots)) → AreTouching new.points new.slots t (record near { slots = after })
+touching-grown t old new near after grown tets before e =
+    let lo = near.reach.lo in
+    let hi = near.reach.hi in
     let g : ℕ → Bool = λ k. (slot_at new.slots k).live in
     let p = is_touching new.points t lo hi in
     let q = is_touching old.points t lo hi in
@@ -132,7 +138,7 @@ touching-grown t lo hi old new es fs grown tets before e =
     let last : length old.slots + 0 ≡ length old.slots = omega arith in
     let made = numbers_of p (length old.slots) (drop (length old.slots) new.slots) in
     let stay : Each (λ k. was k ≡ now k) (numbers_of q 0 old.slots) =
-    same-each was now (λ k. (k < length old.slots) × (q (slot_at old.slots k) ≡ true)) (λ k h j. record { slot = k; phases = phases_of t (sym (same k h.0) j) }) (numbers_of q 0 old.slots) (found-all q old.slots) in
+    same-each was now (λ k. (k < length old.slots) × (q (slot_at old.slots k) ≡ true)) (λ k h j. record { slot = k; touch = touch_of t (sym (same k h.0) j) }) (numbers_of q 0 old.slots) (found-all q old.slots) in
     record {
       reach = before.reach;
       found = e ∙ (ap (λ (xs : List Touched). filter (λ (e : Touched). g e.slot) xs ++ map now made) before.found
@@ -146,9 +152,9 @@ touching-grown t lo hi old new es fs grown tets before e =
     killed a false c h = rw (h refl) refl
 
 -- ---- one slot
-pub not-touched : (b : Bool) (xs : List Bool) → cond b (Some xs) None ≡ None → b ≡ false
-not-touched true xs e = cc
-not-touched false xs e = refl
+pub not-touched : (b : Bool) (x : Touch) → cond b (Some x) None ≡ None → b ≡ false
+not-touched true x e = cc
+not-touched false x e = refl
 
 pub phase-at : (t : Tri) (ps : List Point) (i : ℕ) (d : Bool) → i < 4 → get_or (phases_of t ps) i d ≡ may_want t i ps
 phase-at t ps zero d lt = refl
@@ -165,13 +171,13 @@ module _ (points : List Point) (slots : List Slot) (t : Tri) (lo hi : Point) (k 
       let e : suc k ≡ k + 1 = omega arith in
       ap (numbers_of p k) cons ∙ ap (λ j. cond (p (slot_at slots k)) (k ∷ numbers_of p j (drop (k + 1) slots)) (numbers_of p j (drop (k + 1) slots))) e
 
-  pub made-step : (near : Bool) (before after whole : List Touched) → k < length slots → near ≡ ((slot_at slots k).live && is_met lo hi (points_of points (slot_at slots k).tet.0)) → after ≡ before ++ cond near (picked points slots t k) [] → before ++ map (touched_at points slots t) (numbers_of (is_touching points t lo hi) k (drop k slots)) ≡ whole → after ++ map (touched_at points slots t) (numbers_of (is_touching points t lo hi) (k + 1) (drop (k + 1) slots)) ≡ whole
-  made-step near before after whole lt is e h =
+  pub made-step : (before after whole : List Touched) → k < length slots → after ≡ before ++ picked_near points slots t lo hi k → before ++ map (touched_at points slots t) (numbers_of (is_touching points t lo hi) k (drop k slots)) ≡ whole → after ++ map (touched_at points slots t) (numbers_of (is_touching points t lo hi) (k + 1) (drop (k + 1) slots)) ≡ whole
+  made-step before after whole lt e h =
       let s = slot_at slots k in
       let ps = points_of points s.tet.0 in
       let more = numbers_of (is_touching points t lo hi) (k + 1) (drop (k + 1) slots) in
-      ap (λ xs. xs ++ map (touched_at points slots t) more) (e ∙ ap (λ (b : Bool). before ++ cond b (picked points slots t k) []) is)
-      ∙ (append_assoc before (cond (s.live && is_met lo hi ps) (picked points slots t k) []) (map (touched_at points slots t) more)
+      ap (λ xs. xs ++ map (touched_at points slots t) more) e
+      ∙ (append_assoc before (picked_near points slots t lo hi k) (map (touched_at points slots t) more)
       ∙ (ap (λ xs. before ++ xs) (step s.live (is_met lo hi ps) (touches t ps) more ∙ ap (map (touched_at points slots t)) (sym (next-number (is_touching points t lo hi) lt)))
       ∙ h))
     where

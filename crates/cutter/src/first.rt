@@ -68,7 +68,7 @@ fn first_of_phase(
     near: &Touching,
 ) -> Result<Option<u32>, Memory>
     requires index { i < 4 }
-    requires near { AreTouching store.now.parts.points store.now.parts.slots triangle.now near.now.reach.lo near.now.reach.hi near.now.slots.items }
+    requires near { AreTouching store.now.parts.points store.now.parts.slots triangle.now near.now }
     ensures { IfOk result (λ found. IsFirstSlot (has_one_of (wanted (mesh_in store.now.parts) triangle.now i)) store.now.parts.slots found) }
 {
     let slots = store.slots();
@@ -84,7 +84,7 @@ fn first_slot(
     triangle: &CuttingTriangle,
     near: &Touching,
 ) -> Result<Option<u32>, Memory>
-    requires near { AreTouching store.now.parts.points store.now.parts.slots triangle.now near.now.reach.lo near.now.reach.hi near.now.slots.items }
+    requires near { AreTouching store.now.parts.points store.now.parts.slots triangle.now near.now }
     ensures { IfOk result (λ found. IsFirstSlot (is_open (mesh_in store.now.parts) triangle.now) store.now.parts.slots found) }
 {
     let a = first_of_phase(alloc, store, triangle, 0, near)?;
@@ -116,7 +116,7 @@ pub fn first_wanted_among(
     triangle: &CuttingTriangle,
     near: &Touching,
 ) -> Result<Option<[Point; 4]>, Memory>
-    requires near { AreTouching store.now.parts.points store.now.parts.slots triangle.now near.now.reach.lo near.now.reach.hi near.now.slots.items }
+    requires near { AreTouching store.now.parts.points store.now.parts.slots triangle.now near.now }
     ensures { IfOk result (λ found. IsFirstWanted (mesh_in store.now.parts) triangle.now found) }
 {
     match first_slot(alloc, store, triangle, near)? {

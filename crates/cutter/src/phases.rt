@@ -54,7 +54,7 @@ fn wanted_cuts(
     near: &Touching,
 ) -> Result<Vec<Cut>, Memory>
     requires index { i < 4 }
-    requires near { AreTouching store.now.parts.points store.now.parts.slots triangle.now near.now.reach.lo near.now.reach.hi near.now.slots.items }
+    requires near { AreTouching store.now.parts.points store.now.parts.slots triangle.now near.now }
     ensures cuts { IfOk result (λ v. v.items ≡ wanted_cuts (mesh_in store.now.parts) triangle.now i) }
     ensures sound { IsSound store.now.side store.now.parts }
 {
@@ -84,7 +84,7 @@ fn cut_wanted(
 ) -> Result<u32, StoreIssue>
     requires open { IsSome store.old.at_begin }
     requires index { i < 4 }
-    requires near { AreTouching store.old.parts.points store.old.parts.slots triangle.now near.now.reach.lo near.now.reach.hi near.now.slots.items }
+    requires near { AreTouching store.old.parts.points store.old.parts.slots triangle.now near.now }
     ensures mesh { OnOk result (mesh_in store.new.parts ≡ phase (mesh_in store.old.parts) triangle.now i) }
     ensures count { IfOk result (λ k. length store.old.parts.points + k ≡ length store.new.parts.points) }
     ensures grown { OnOk result (IsGrown store.old.parts store.new.parts) }
@@ -138,13 +138,13 @@ pub fn phase_among(
 ) -> Result<u32, StoreIssue>
     requires open { IsSome store.old.at_begin }
     requires index { i < 4 }
-    requires near { AreTouching store.old.parts.points store.old.parts.slots triangle.now near.old.reach.lo near.old.reach.hi near.old.slots.items }
+    requires near { AreTouching store.old.parts.points store.old.parts.slots triangle.now near.old }
     ensures mesh { OnOk result (mesh_in store.new.parts ≡ phase (mesh_in store.old.parts) triangle.now i) }
     ensures count { IfOk result (λ k. length store.old.parts.points + k ≡ length store.new.parts.points) }
     ensures grown { OnOk result (IsGrown store.old.parts store.new.parts) }
     ensures goes_on { OnOk result (IsSameTransaction store.old store.new) }
     ensures within { OnOk result (IsWithinLimits (mesh_in store.new.parts)) }
-    ensures near { OnOk result (AreTouching store.new.parts.points store.new.parts.slots triangle.now near.new.reach.lo near.new.reach.hi near.new.slots.items) }
+    ensures near { OnOk result (AreTouching store.new.parts.points store.new.parts.slots triangle.now near.new) }
     ensures full { result ≡ Err StoreIssue.Full → ¬ IsWithinLimits (phase (mesh_in store.old.parts) triangle.now i) }
     ensures err { OnErr result (store.new ≡ rolled_back store.old) }
 {

@@ -1,25 +1,23 @@
 // The tetrahedra that a triangle touches.
-ghost use Rattle.cutter.specs.Found.{AreTouching, is_touching, picked, touched_at};
-ghost use Rattle.cutting_rule.specs.Bounds.{is_met};
+ghost use Rattle.cutter.specs.Found.{AreTouching, is_touching, picked_near, picked_of, touched_at};
 ghost use Rattle.grid.specs.Boxes.{IsInBox};
 ghost use Rattle.grid.specs.Limits.{largest_side};
-ghost use Rattle.mesh_types.specs.Phases.{points_of};
 ghost use Rattle.std.specs.List.{filter};
-ghost use Rattle.std.specs.Prelude.{All, IfOk, OnOk, drop, length, map, ◌&&◌, ◌++◌, ◌<◌, ◌≡◌, ◌≤◌};
+ghost use Rattle.std.specs.Prelude.{All, IfOk, OnOk, drop, length, map, ◌++◌, ◌<◌, ◌≡◌, ◌≤◌};
 ghost use Rattle.tet_slots.specs.Searches.{numbers_of};
 ghost use Rattle.tet_slots.specs.Slots.{slot_at};
 
 use crate::wanted::corner_points;
-use cutting_rule::{Bounds, CuttingTriangle};
-use grid::Memory;
+use cutting_rule::{Bounds, CuttingTriangle, Touch};
+use grid::{Memory, Point};
 use std::alloc::Global;
 use tet_slots::Slots;
 
-/// A live slot whose tetrahedron a triangle touches, and which phases may want edges of it.
+/// A live slot whose tetrahedron a triangle touches, and what is known of its corners.
 #[derive(Clone, Copy, Debug)]
 pub struct Touched {
     pub slot: u32,
-    pub phases: [bool; 4],
+    pub touch: Touch,
 }
 
 /// The live slots in which a triangle may want edges or have section faces, in rising order: those of
@@ -37,49 +35,59 @@ pub fn find_touching(
     slots: &Slots,
 ) -> Result<Touching, Memory>
     requires { All (IsInBox largest_side) slots.now.points }
-    ensures { IfOk result (λ found. AreTouching slots.now.points slots.now.slots triangle.now found.reach.lo found.reach.hi found.slots.items) }
+    ensures { IfOk result (λ found. AreTouching slots.now.points slots.now.slots triangle.now found) }
 {
     let reach = triangle.section_bounds();
     let mut met = Vec::new(alloc);
     slots.meeting(reach.lo, reach.hi, &mut met)?;
     let mut near = Vec::new(alloc);
     for slot in &met {
-        push_if_touched(triangle, slots, *slot, &mut near)?;
+        let corners = corner_points(slots, slots.tet(*slot));
+        push_if_touched(triangle, *slot, &corners, &mut near)?;
     }
     Ok(Touching { reach, slots: near })
 }
 
-/// Adds a slot where the triangle touches its tetrahedron.
+/// Adds a slot where the triangle touches its tetrahedron, which has these corners.
 fn push_if_touched(
     triangle: &CuttingTriangle,
+    slot: u32,
+    corners: &[Point; 4],
+    into: &mut Vec<Touched>,
+) -> Result<(), Memory>
+    requires { All (IsInBox largest_side) corners.now }
+    ensures { OnOk result (into.new.items ≡ into.old.items ++ picked_of triangle.now slot corners.now) }
+{
+    match triangle.touch(corners) {
+        None => Ok(()),
+        Some(touch) => {
+            into.push(Touched { slot, touch })?;
+            Ok(())
+        }
+    }
+}
+
+/// Adds a slot where it is live, its tetrahedron meets the box, and the triangle touches it.
+fn push_if_near(
+    triangle: &CuttingTriangle,
+    reach: Bounds,
     slots: &Slots,
     slot: u32,
     into: &mut Vec<Touched>,
 ) -> Result<(), Memory>
     requires in_box { All (IsInBox largest_side) slots.now.points }
     requires there { slot < length slots.now.slots }
-    ensures { OnOk result (into.new.items ≡ into.old.items ++ picked slots.now.points slots.now.slots triangle.now slot) }
-{
-    let corners = corner_points(slots, slots.tet(slot));
-    match triangle.touch(&corners) {
-        None => Ok(()),
-        Some(phases) => {
-            into.push(Touched { slot, phases })?;
-            Ok(())
-        }
-    }
-}
-
-/// Whether a slot is live and its tetrahedron meets the box.
-fn is_near(reach: Bounds, slots: &Slots, slot: u32) -> bool
-    requires there { slot < length slots.now.slots }
-    ensures { result ≡ ((slot_at slots.now.slots slot).live && is_met reach.lo reach.hi (points_of slots.now.points (slot_at slots.now.slots slot).tet.0)) }
+    ensures { OnOk result (into.new.items ≡ into.old.items ++ picked_near slots.now.points slots.now.slots triangle.now reach.lo reach.hi slot) }
 {
     if !slots.live(slot) {
-        return false;
+        return Ok(());
     }
     let corners = corner_points(slots, slots.tet(slot));
-    reach.meets(&corners)
+    if !reach.meets(&corners) {
+        return Ok(());
+    }
+    push_if_touched(triangle, slot, &corners, into)?;
+    Ok(())
 }
 
 /// Adds the slots that are still live.
@@ -108,9 +116,7 @@ fn push_made(
     ensures { OnOk result (into.new.items ≡ into.old.items ++ map (touched_at slots.now.points slots.now.slots triangle.now) (numbers_of (is_touching slots.now.points triangle.now reach.lo reach.hi) first (drop first slots.now.slots))) }
 {
     for slot in first..slots.made() {
-        if is_near(reach, slots, slot) {
-            push_if_touched(triangle, slots, slot, into)?;
-        }
+        push_if_near(triangle, reach, slots, slot, into)?;
     }
     Ok(())
 }

@@ -11,7 +11,7 @@ ghost use Rattle.std.specs.List.{flat_map};
 ghost use Rattle.std.specs.Prelude.{All, IfOk, OnOk, length, ◌++◌, ◌<◌, ◌≡◌};
 
 use crate::touching::{Touched, Touching};
-use cutting_rule::{CuttingTriangle, Edge, push_wanted_of};
+use cutting_rule::{CuttingTriangle, Edge, push_along, push_crossed};
 use grid::{Memory, Point, Tet};
 use std::alloc::Global;
 use tet_slots::Slots;
@@ -41,7 +41,7 @@ pub(crate) fn near_wanted(
 ) -> Result<Vec<Edge>, Memory>
     requires index { i < 4 }
     requires in_box { All (IsInBox largest_side) slots.now.points }
-    requires near { AreTouching slots.now.points slots.now.slots triangle.now near.now.reach.lo near.now.reach.hi near.now.slots.items }
+    requires near { AreTouching slots.now.points slots.now.slots triangle.now near.now }
     ensures { IfOk result (λ v. numbers_of v.items ≡ flat_map (wanted_in slots.now.points triangle.now i) (live_tets slots.now.slots)) }
 {
     let mut edges = Vec::new(alloc);
@@ -65,11 +65,16 @@ fn push_wanted_at(
     requires touched { touched ≡ touched_at slots.now.points slots.now.slots triangle.now touched.slot }
     ensures { OnOk result (numbers_of into.new.items ≡ numbers_of into.old.items ++ wanted_in slots.now.points triangle.now i (slot_at slots.now.slots touched.slot).tet.0) }
 {
-    if !touched.phases[i as usize] {
+    if !touched.touch.phases[i as usize] {
         return Ok(());
     }
     let tet = slots.tet(touched.slot);
+    let signs = touched.touch.signs;
+    if i == 0 {
+        push_crossed(tet, signs, into)?;
+        return Ok(());
+    }
     let corners = corner_points(slots, tet);
-    push_wanted_of(triangle, i, tet, &corners, into)?;
+    push_along(triangle, i, tet, &corners, signs, into)?;
     Ok(())
 }

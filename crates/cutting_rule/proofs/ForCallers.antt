@@ -1,8 +1,9 @@
 -- For callers: what phases cut, sections, defects in their order, and the corners by name.
 pub use Rattle.cutting_rule.proofs.Steps.{flat-step, flat-end, mapped-step, mapped-end}
-pub use Rattle.cutting_rule.proofs.Meeting.{same_bools}
+pub use Rattle.cutting_rule.proofs.Meeting.{any-map, le-true}
 pub use Rattle.cutting_rule.proofs.Sides.{on-sides}
 pub use Rattle.cutting_rule.proofs.SectionFaces.{section-is}
+pub use Rattle.cutting_rule.proofs.WantedEdges.{filter-none}
 pub use Rattle.cutting_rule.proofs.Points.{points-in}
 pub use Rattle.cutting_rule.proofs.PhaseCuts.{wanted_cuts-AreCuts, wanted_cuts-in, edges-split, edges-wanted, cuts-wanted, points-refined}
 pub use Rattle.cutting_rule.proofs.Untouched.{may-none, untouched-none}

@@ -3,8 +3,9 @@ mod Sorting
 mod Ends
 mod Meeting
 mod Sides
+mod CornerSigns
 mod WantedEdges
-mod Segments
+mod EdgePairs
 mod SectionFaces
 mod Points
 mod PhaseCuts

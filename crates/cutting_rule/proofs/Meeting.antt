@@ -1,14 +1,15 @@
 -- Bounding boxes that meet.
-use Rattle.std.proofs.Common.{◌≡◌, ℤ, ◌≤ℤ◌, Bool, true, false, ◌&&◌, ◌||◌, int_le, List, [], ◌∷◌, map, refl, sym, ap, ap₂, ◌∙◌, arith}
+use Rattle.std.proofs.Common.{◌≡◌, ℤ, ◌≤ℤ◌, Bool, true, ◌&&◌, ◌||◌, int_le, List, [], ◌∷◌, map, refl, sym, ap, ap₂, ◌∙◌, arith}
 use Rattle.std.specs.List.{list_any}
 use Rattle.std.proofs.lemmas.Int.{ints}
 use Rattle.std.proofs.lemmas.List.Elements.{All-contains}
 use Rattle.std.proofs.lemmas.List.Folds.{Any-from_list_any, list_any-from_Any}
 use Rattle.grid.specs.declared.shapes.Point.{Point}
 use Rattle.mesh_types.specs.CuttingRule.{ranges_meet, boxes_meet}
+use Rattle.mesh_types.proofs.ForCallers.{same_bools}
 use Rattle.cutting_rule.specs.Bounds.{AreEnds, AreBounds, overlaps, is_met}
 
-le-true : (a b : ℤ) → a ≤ℤ b → int_le a b ≡ true
+pub le-true : (a b : ℤ) → a ≤ℤ b → int_le a b ≡ true
 le-true a b h = grind (arith, ints)
 
 true-le : (a b : ℤ) → int_le a b ≡ true → a ≤ℤ b
@@ -16,11 +17,6 @@ true-le a b h = grind (arith, ints)
 
 le-trans : (a b c : ℤ) → a ≤ℤ b → b ≤ℤ c → a ≤ℤ c
 le-trans a b c h k = omega (arith, ints)
-
-pub same_bools : (p q : Bool) → (p ≡ true → q ≡ true) → (q ≡ true → p ≡ true) → p ≡ q
-same_bools true q f g = sym (f refl)
-same_bools false true f g = g refl
-same_bools false false f g = refl
 
 some_above : (lo hi : ℤ) (ws : List ℤ) → AreEnds lo hi ws → (v : ℤ) → list_any (λ w. int_le v w) ws ≡ int_le v hi
 some_above lo hi ws h v =
@@ -47,7 +43,7 @@ range-met lo hi ws vs h =
     (any-same (λ v. int_le v hi) (λ v. list_any (λ w. int_le v w) ws) (λ v. sym (some_above lo hi ws h v)) vs)
     (any-same (λ v. int_le lo v) (λ v. list_any (λ w. int_le w v) ws) (λ v. sym (some_below lo hi ws h v)) vs)
 
-any-map : {X Y : Type 0} (test : Y → Bool) (f : X → Y) (xs : List X) → list_any test (map f xs) ≡ list_any (λ x. test (f x)) xs
+pub any-map : {X Y : Type 0} (test : Y → Bool) (f : X → Y) (xs : List X) → list_any test (map f xs) ≡ list_any (λ x. test (f x)) xs
 any-map test f [] = refl
 any-map test f (x ∷ xs) = ap (λ (b : Bool). test (f x) || b) (any-map test f xs)
 

@@ -104,6 +104,3 @@ none-names points P xs named no_fault h = at h.before h.simplex h.after (subst (
     at : (before : List (List ℕ)) (x : List ℕ) (after : List (List ℕ)) → Each (λ x. ¬ P x) (before ++ x ∷ after) → P x → ⊥
     at [] x after h f = h.0 f
     at (a ∷ before) x after h f = at before x after h.1 f
-
-pub All-weaker : (P Q : List ℕ → Type 0) (xs : List (List ℕ)) → ((x : List ℕ) → P x → Q x) → All P xs → All Q xs
-All-weaker P Q xs f h k d lt = f (get_or xs k d) (h k d lt)

@@ -1,7 +1,7 @@
 -- The box about a triangle: it has the bounding box, and each point of the section.
-use Rattle.std.proofs.Common.{◌≡◌, ℕ, ℤ, ◌≤ℤ◌, Bool, true, false, ◌&&◌, int_le, List, [], ◌∷◌, inl, inr, refl, sym, ◌∙◌, arith}
+use Rattle.std.proofs.Common.{◌≡◌, ℕ, ℤ, ◌≤ℤ◌, Bool, true, int_le, List, [], ◌∷◌, inl, inr, sym, ◌∙◌, arith}
 use Rattle.std.specs.List.{list_any}
-use Rattle.std.proofs.lemmas.Bool.{or_left, or_right, or_cases, true≢false, false_from_ne_true}
+use Rattle.std.proofs.lemmas.Bool.{or_left, or_right, or_cases, true≢false, false_from_ne_true, and_parts, and_from}
 use Rattle.std.proofs.lemmas.Int.{ints}
 use Rattle.grid.specs.declared.shapes.Point.{Point}
 use Rattle.grid.specs.declared.shapes.Tri.{Tri}
@@ -21,17 +21,6 @@ any-more p q f (x ∷ xs) e = elim (or_cases (p x) (list_any p xs) e) [
   | inr h ↦ or_right (q x) (list_any q xs) (any-more p q f xs h)
 ]
 
-and_left : (p q : Bool) → (p && q) ≡ true → p ≡ true
-and_left true q e = refl
-and_left false q e = e
-
-and_right : (p q : Bool) → (p && q) ≡ true → q ≡ true
-and_right true q e = e
-and_right false q e = cc
-
-and_both : (p q : Bool) → p ≡ true → q ≡ true → (p && q) ≡ true
-and_both p q e f = rw (e, f) refl
-
 le-less : (a b c : ℤ) → a ≤ℤ b → int_le b c ≡ true → int_le a c ≡ true
 le-less a b c h k = grind (arith, ints)
 
@@ -40,9 +29,9 @@ le-more a b c h k = grind (arith, ints)
 
 overlaps-more : (f : Point → ℤ) (lo hi l h : ℤ) → l ≤ℤ lo → hi ≤ℤ h → (ps : List Point) → overlaps f lo hi ps ≡ true → overlaps f l h ps ≡ true
 overlaps-more f lo hi l h low high ps e =
-    and_both _ _
-    (any-more (λ p. int_le (f p) hi) (λ p. int_le (f p) h) (λ p k. le-more (f p) hi h high k) ps (and_left _ _ e))
-    (any-more (λ p. int_le lo (f p)) (λ p. int_le l (f p)) (λ p k. le-less l lo (f p) low k) ps (and_right _ _ e))
+    and_from _ _
+    (any-more (λ p. int_le (f p) hi) (λ p. int_le (f p) h) (λ p k. le-more (f p) hi h high k) ps (and_parts _ _ e).0)
+    (any-more (λ p. int_le lo (f p)) (λ p. int_le l (f p)) (λ p k. le-less l lo (f p) low k) ps (and_parts _ _ e).1)
 
 -- an end of the wider range is beyond that of the narrower
 spread-low : (lo hi : ℤ) (wide area : ℕ) (l h : ℤ) → IsUpTo largest_side lo → IsSpread lo hi wide area l h → l ≤ℤ lo
@@ -64,11 +53,11 @@ reach-is t lo hi l h wide area bounds lo_in hi_in s inside =
     let z_high = spread-high lo.z hi.z wide area l.z h.z hi_in.z_in s.z_spread in
     let more : (ps : List Point) → is_met lo hi ps ≡ true → is_met l h ps ≡ true =
     λ ps e.
-    and_both _ _
-    (and_both _ _
-    (overlaps-more (λ p. p.x) lo.x hi.x l.x h.x x_low x_high ps (and_left _ _ (and_left _ _ e)))
-    (overlaps-more (λ p. p.y) lo.y hi.y l.y h.y y_low y_high ps (and_right _ _ (and_left _ _ e))))
-    (overlaps-more (λ p. p.z) lo.z hi.z l.z h.z z_low z_high ps (and_right _ _ e)) in
+    and_from _ _
+    (and_from _ _
+    (overlaps-more (λ p. p.x) lo.x hi.x l.x h.x x_low x_high ps (and_parts _ _ (and_parts _ _ e).0).0)
+    (overlaps-more (λ p. p.y) lo.y hi.y l.y h.y y_low y_high ps (and_parts _ _ (and_parts _ _ e).0).1))
+    (overlaps-more (λ p. p.z) lo.z hi.z l.z h.z z_low z_high ps (and_parts _ _ e).1) in
     record {
       x_ordered = rise lo.x hi.x l.x h.x x_low x_high (ends-rise lo.x hi.x _ bounds.x_ends);
       y_ordered = rise lo.y hi.y l.y h.y y_low y_high (ends-rise lo.y hi.y _ bounds.y_ends);

@@ -1,7 +1,7 @@
 -- The section of a triangle lies in its bounding box, widened.
-use Rattle.std.proofs.Common.{◌≡◌, ℕ, ◌+◌, ◌*◌, ◌^◌, ◌<◌, ◌≤◌, Bool, true, false, not, ◌&&◌, List, [], ◌∷◌, length, map, ℤ, pos, ◌+ℤ◌, ◌-ℤ◌, ◌*ℤ◌, ◌≤ℤ◌, ◌<ℤ◌, refl, sym, ap, ◌∙◌, subst, arith, slice_index_or}
+use Rattle.std.proofs.Common.{◌≡◌, ℕ, ◌+◌, ◌*◌, ◌^◌, ◌<◌, ◌≤◌, Bool, true, not, List, [], ◌∷◌, length, map, ℤ, pos, ◌+ℤ◌, ◌-ℤ◌, ◌*ℤ◌, ◌≤ℤ◌, ◌<ℤ◌, refl, sym, ap, ◌∙◌, subst, arith, slice_index_or}
 use Rattle.std.specs.Int.Signed.{lt_z}
-use Rattle.std.proofs.lemmas.Bool.{true≢false}
+use Rattle.std.proofs.lemmas.Bool.{and_parts}
 use Rattle.std.proofs.lemmas.List.Elements.{recursion_from_All}
 use lib.IntN.{nat_abs}
 use Rattle.int_algebra.proofs.Laws.{linear}
@@ -30,11 +30,6 @@ length-NonNegative m = at_most (m.x ∷ m.y ∷ m.z ∷ []) [] (constant (pos 0)
 
 one_times : (d : ℤ) → pos (1 ^ 2) *ℤ d ≡ d
 one_times d = ring (d ∷ []) (constant (pos 1) ⊗ variable 0) (variable 0) refl
-
-split : (a b : Bool) → (a && b) ≡ true → (a ≡ true) × (b ≡ true)
-split true true e = (refl, refl)
-split true false e = absurd (true≢false (sym e))
-split false b e = absurd (true≢false (sym e))
 
 -- ---- the corners lie in the bounding box
 ends_at : (f : Point → ℤ) (ps : List Point) (lo hi : ℤ) → length ps ≡ 3 → AreEnds lo hi (map f ps)
@@ -74,9 +69,6 @@ module _ (t : Tri) where
   abbrev side : Bool
   side = lt_z (pos 0) (value_to true axis (corner_of t 0) (corner_of t 1) (corner_of t 2))
 
-  first-normal : side_normal t 0 ≡ chosen side (across axis (corner_of t 0) (corner_of t 1))
-  first-normal = refl
-
   second-normal : side_normal t 1 ≡ chosen side (across axis (corner_of t 1) (corner_of t 2))
   second-normal = ap (λ (z : ℤ). chosen (lt_z (pos 0) z) (across axis (corner_of t 1) (corner_of t 2))) (second-same axis (corner_of t 0) (corner_of t 1) (corner_of t 2) (corner_of t 0))
 
@@ -113,10 +105,10 @@ module _ (t : Tri) where
         let b = corner_of t 1 in
         let c = corner_of t 2 in
         let n = normal_of t in
-        let tests = split _ _ e in
-        let first = split _ _ tests.1 in
-        let second = split _ _ first.1 in
-        let third = split _ _ second.1 in
+        let tests = and_parts _ _ e in
+        let first = and_parts _ _ tests.1 in
+        let second = and_parts _ _ first.1 in
+        let third = and_parts _ _ second.1 in
         let f_0 = value_to side axis a b p in
         let f_1 = value_to side axis b c p in
         let f_2 = value_to side axis c a p in

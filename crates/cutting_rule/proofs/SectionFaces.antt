@@ -1,18 +1,21 @@
 -- The section faces of a tetrahedron and of a mesh.
-use Rattle.std.proofs.Common.{◌≡◌, ℕ, Bool, true, false, ◌&&◌, if◌then◌else◌, List, [], ◌∷◌, ◌++◌, map, length, get_or, refl, ap, sym, ◌∙◌, inl, inr, append_assoc}
-use Rattle.std.specs.List.{flat_map, filter}
+use Rattle.std.proofs.Common.{◌≡◌, ℕ, ◌<◌, ℤ, pos, Bool, true, false, not, ◌&&◌, if◌then◌else◌, List, [], ◌∷◌, ◌++◌, map, length, get_or, refl, ap, sym, ◌∙◌, inl, inr, arith}
+use Rattle.std.specs.List.{flat_map, filter, list_all}
+use Rattle.std.specs.Ordering.{int_eq}
 use Rattle.std.proofs.lemmas.Bool.{cases_Bool}
-use Rattle.std.proofs.lemmas.List.{append-nil}
 use Rattle.std.proofs.lemmas.List.Elements.{filter-append}
 use Rattle.grid.specs.declared.shapes.Point.{Point}
 use Rattle.grid.specs.declared.shapes.Tri.{Tri}
-use Rattle.grid.specs.Determinants.{point_at}
+use Rattle.grid.specs.Determinants.{origin, point_at}
 use Rattle.grid.specs.Meshes.{Mesh}
+use Rattle.grid.specs.Planes.{side_plane}
 use Rattle.grid.specs.Simplices.{faces, all_faces, rising}
-use Rattle.mesh_types.specs.CuttingRule.{is_in_section}
+use Rattle.mesh_types.specs.CuttingRule.{lies_below, lies_on, section_plane, three_sides, is_in_section}
 use Rattle.mesh_types.specs.Phases.{points_of, is_section_face, section}
 use Rattle.mesh_types.specs.Tracking.{in_order_once}
 use Rattle.cutting_rule.specs.Section.{section_in}
+use Rattle.cutting_rule.specs.Touching.{signs_at}
+use Rattle.cutting_rule.proofs.EdgePairs.{sign-at}
 
 -- ---- of a tetrahedron
 -- the rising triple of a face, where the test holds
@@ -62,14 +65,46 @@ module _ (points : List Point) (t : Tri) where
       let id : s ≡ inside (point_at points d) = pd ∙ ap (λ qs. inside (get_or qs 3 o)) is in
       four-faces a b c d acb abd adc bcd (e ∙ face-test a c b p r q ia ic ib) (f ∙ face-test a b d p q s ia ib id) (g ∙ face-test a d c p s r ia id ic) (h ∙ face-test b c d q r s ib ic id)
 
--- four lists after a first, one after the other
-pub appended : {X : Type 0} (xs a b c d ys zs us vs : List X) → ys ≡ xs ++ a → zs ≡ ys ++ b → us ≡ zs ++ c → vs ≡ us ++ d → vs ≡ xs ++ (a ++ (b ++ (c ++ (d ++ []))))
-appended xs a b c d ys zs us vs e f g h =
-    h ∙ (ap (λ ts. ts ++ d) (g ∙ (ap (λ ts. ts ++ c) (f ∙ ap (λ ts. ts ++ b) e)))
-    ∙ (append_assoc ((xs ++ a) ++ b) c d
-    ∙ (append_assoc (xs ++ a) b (c ++ d)
-    ∙ (append_assoc xs a (b ++ (c ++ d))
-    ∙ ap (λ ts. xs ++ (a ++ (b ++ (c ++ ts)))) (sym (append-nil d))))))
+  -- none, where no three corners are on the triangle's plane
+  off : (p q r a b c : Bool) → ((p && q) && r) ≡ false → ((p && a) && ((q && b) && ((r && c) && true))) ≡ false
+  off true true true a b c e = cc
+  off true true false true true c e = refl
+  off true true false true false c e = refl
+  off true true false false b c e = refl
+  off true false r true b c e = refl
+  off true false r false b c e = refl
+  off false q r a b c e = refl
+
+  abbrev on : Point → Bool
+  on p = lies_on (section_plane t) p
+
+  abbrev within : Point → Bool
+  within p = list_all (λ i. not (lies_below (side_plane t i) p)) three_sides
+
+  face-off : (u v w : ℕ) (p q r : Bool) → p ≡ on (point_at points u) → q ≡ on (point_at points v) → r ≡ on (point_at points w) → ((p && q) && r) ≡ false → false ≡ is_section_face points t (u ∷ v ∷ w ∷ [])
+  unfolding is_in_section
+  face-off u v w p q r e f g h =
+      sym (off (on (point_at points u)) (on (point_at points v)) (on (point_at points w)) (within (point_at points u)) (within (point_at points v)) (within (point_at points w)) (sym (λ j. (e j && f j) && g j) ∙ h))
+
+  sign-on : (ps : List Point) (signs : List ℤ) (k : ℕ) → signs ≡ signs_at t ps → k < length ps → int_eq (get_or signs k (pos 0)) (pos 0) ≡ on (get_or ps k origin)
+  unfolding lies_on
+  sign-on ps signs k e lt = ap (λ s. int_eq s (pos 0)) (sign-at t ps signs k origin e lt)
+
+  pub no-section : (x : List ℕ) (signs : List ℤ) (p q r s : Bool) → length x ≡ 4 → signs ≡ signs_at t (points_of points x)
+      → p ≡ int_eq (get_or signs 0 (pos 0)) (pos 0) → q ≡ int_eq (get_or signs 1 (pos 0)) (pos 0) → r ≡ int_eq (get_or signs 2 (pos 0)) (pos 0) → s ≡ int_eq (get_or signs 3 (pos 0)) (pos 0)
+      → ((p && r) && q) ≡ false → ((p && q) && s) ≡ false → ((p && s) && r) ≡ false → ((q && r) && s) ≡ false → section_in points t x ≡ []
+  no-section [] signs p q r s l is ep eq er es e f g h = cc l
+  no-section (a ∷ []) signs p q r s l is ep eq er es e f g h = cc l
+  no-section (a ∷ b ∷ []) signs p q r s l is ep eq er es e f g h = cc l
+  no-section (a ∷ b ∷ c ∷ []) signs p q r s l is ep eq er es e f g h = cc l
+  no-section (a ∷ b ∷ c ∷ d ∷ u ∷ x) signs p q r s l is ep eq er es e f g h = cc l
+  no-section (a ∷ b ∷ c ∷ d ∷ []) signs p q r s l is ep eq er es e f g h =
+      let ps = points_of points (a ∷ b ∷ c ∷ d ∷ []) in
+      let ia = ep ∙ sign-on ps signs 0 is (omega arith) in
+      let ib = eq ∙ sign-on ps signs 1 is (omega arith) in
+      let ic = er ∙ sign-on ps signs 2 is (omega arith) in
+      let id = es ∙ sign-on ps signs 3 is (omega arith) in
+      sym (four-faces a b c d false false false false (face-off a c b p r q ia ic ib e) (face-off a b d p q s ia ib id f) (face-off a d c p s r ia id ic g) (face-off b c d q r s ib ic id h))
 
 -- ---- of a mesh
 map-parts : (xs ys : List (List ℕ)) → map rising (xs ++ ys) ≡ map rising xs ++ map rising ys

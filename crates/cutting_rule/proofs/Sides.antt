@@ -1,14 +1,14 @@
 -- The tests of the cutting rule by the sides on which points lie.
-use Rattle.std.proofs.Common.{◌≡◌, ℕ, ◌<◌, zero, suc, ℤ, pos, Bool, true, false, not, ◌&&◌, ◌||◌, List, [], ◌∷◌, refl, ap₂, ◌∙◌, arith}
+use Rattle.std.proofs.Common.{◌≡◌, ℕ, ◌<◌, zero, suc, ℤ, pos, Bool, true, false, not, ◌&&◌, List, refl, arith}
 use Rattle.std.specs.Int.Signed.{lt_z}
 use Rattle.std.specs.Ordering.{int_eq}
-use Rattle.std.specs.List.{list_any, list_all}
+use Rattle.std.specs.List.{list_all}
 use Rattle.std.proofs.lemmas.Bool.Decides.{Decides-int_eq}
 use Rattle.std.proofs.lemmas.Int.{ints}
-use Rattle.cutting_rule.proofs.Meeting.{same_bools}
 use Rattle.grid.specs.declared.shapes.Point.{Point}
 use Rattle.grid.specs.declared.shapes.Tri.{Tri}
 use Rattle.grid.specs.Planes.{Plane, side_plane, snap_sign}
+use Rattle.mesh_types.proofs.ForCallers.{same_bools}
 use Rattle.mesh_types.specs.CuttingRule.{lies_below, lies_above, lies_on, splits, reaches, boxes_meet, section_plane, phase_plane, is_wanted, is_crossed}
 
 on-sign : (s : ℤ) → int_eq s (pos 0) ≡ (not (lt_z s (pos 0)) && not (lt_z (pos 0) s))
@@ -23,18 +23,6 @@ on-sign s = same_bools _ _ (λ e. to s ((Decides-int_eq s (pos 0)).0 e)) (λ e. 
 pub on-sides : (m : Plane) (p : Point) → lies_on m p ≡ (not (lies_below m p) && not (lies_above m p))
 unfolding lies_on lies_below lies_above
 on-sides m p = on-sign (snap_sign m p)
-
-step : (a b c d : Bool) → ((not a && not b) && (not c && not d)) ≡ (not (a || c) && not (b || d))
-step true b c d = refl
-step false true true d = refl
-step false true false d = refl
-step false false true d = refl
-step false false false d = refl
-
--- all points are on the plane
-pub all_on : (m : Plane) (ps : List Point) → list_all (lies_on m) ps ≡ (not (list_any (lies_below m) ps) && not (list_any (lies_above m) ps))
-all_on m [] = refl
-all_on m (p ∷ ps) = ap₂ (λ (a b : Bool). a && b) (on-sides m p) (all_on m ps) ∙ step (lies_below m p) (lies_above m p) (list_any (lies_below m) ps) (list_any (lies_above m) ps)
 
 and_move : (a b c d : Bool) → (a && b && c && d) ≡ (c && (b && (d && a)))
 and_move true true true true = refl
@@ -68,11 +56,3 @@ wanted-first t corners ends h = first (is_crossed t corners) (splits (section_pl
     first : (a b : Bool) → a ≡ true → (a && b) ≡ b
     first true b e = refl
     first false b e = cc
-
--- what is crossed, where the boxes meet
-pub crossed-meeting : (t : Tri) (corners : List Point) → boxes_meet corners t.0 ≡ true → is_crossed t corners ≡ (splits (phase_plane t 0) corners && reaches t corners)
-crossed-meeting t corners h = at (boxes_meet corners t.0) (splits (section_plane t) corners) (reaches t corners) h
-  where
-    at : (a b c : Bool) → a ≡ true → (a && b && c) ≡ (b && c)
-    at true b c e = refl
-    at false b c e = cc

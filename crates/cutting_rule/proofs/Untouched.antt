@@ -1,7 +1,7 @@
 -- A tetrahedron that a triangle does not touch has no wanted edges.
-use Rattle.std.proofs.Common.{◌≡◌, ℕ, zero, suc, Bool, true, false, ◌&&◌, ◌||◌, List, [], inl, inr, refl, sym, ◌∙◌, arith}
+use Rattle.std.proofs.Common.{◌≡◌, ℕ, zero, suc, Bool, true, false, ◌&&◌, List, [], inl, inr, refl, sym, ◌∙◌, arith}
 use Rattle.std.specs.List.{list_any}
-use Rattle.std.proofs.lemmas.Bool.{cases_Bool, or_right, true≢false, false_from_ne_true}
+use Rattle.std.proofs.lemmas.Bool.{cases_Bool, or_right, true≢false, false_from_ne_true, and_parts, and_from, or_parts, and_left}
 use Rattle.grid.specs.declared.shapes.Point.{Point}
 use Rattle.grid.specs.declared.shapes.Tri.{Tri}
 use Rattle.grid.specs.Planes.{side_plane}
@@ -11,38 +11,16 @@ use Rattle.cutting_rule.specs.Bounds.{is_met}
 use Rattle.cutting_rule.specs.Touching.{touches, touches_plane, has_some_within, may_want, IsReach}
 use Rattle.cutting_rule.proofs.WantedEdges.{AreIn, any-points, edges_in, filter-none, far-none, uncrossed-none, later-none}
 
-or-none-left : (p q : Bool) → (p || q) ≡ false → p ≡ false
-or-none-left true q e = cc
-or-none-left false q e = refl
-
-or-none-right : (p q : Bool) → (p || q) ≡ false → q ≡ false
-or-none-right true q e = cc
-or-none-right false q e = e
-
 none-middle : (p q r : Bool) → q ≡ false → (p && q && r) ≡ false
 none-middle true q r e = rw e refl
 none-middle false q r e = refl
 
-none-first : (p q : Bool) → p ≡ false → (p && q) ≡ false
-none-first p q e = rw e refl
-
 -- none of a tetrahedron whose corners do not touch the triangle's plane
 pub apart-none : (points : List Point) (t : Tri) (i : ℕ) (x : List ℕ) → touches_plane t (points_of points x) ≡ false → wanted_in points t i x ≡ []
 apart-none points t zero x h =
-    uncrossed-none points t x (none-middle (boxes_meet (points_of points x) t.0) (splits (section_plane t) (points_of points x)) (reaches t (points_of points x)) (or-none-right _ _ h))
+    uncrossed-none points t x (none-middle (boxes_meet (points_of points x) t.0) (splits (section_plane t) (points_of points x)) (reaches t (points_of points x)) (or_parts _ _ h).1)
 apart-none points t (suc i) x h =
-    later-none points t (suc i) x (omega arith) (none-first (list_any (lies_on (section_plane t)) (points_of points x)) (splits (phase_plane t (suc i)) (points_of points x)) (or-none-left _ _ h))
-
-and_left : (p q : Bool) → (p && q) ≡ true → p ≡ true
-and_left true q e = refl
-and_left false q e = e
-
-and_right : (p q : Bool) → (p && q) ≡ true → q ≡ true
-and_right true q e = e
-and_right false q e = cc
-
-and_both : (p q : Bool) → p ≡ true → q ≡ true → (p && q) ≡ true
-and_both p q e f = rw (e, f) refl
+    later-none points t (suc i) x (omega arith) (and_left (list_any (lies_on (section_plane t)) (points_of points x)) (splits (phase_plane t (suc i)) (points_of points x)) (or_parts _ _ h).0)
 
 -- a wanted edge, or the tetrahedron that has it, reaches beyond each side
 itself : (x : List ℕ) → AreIn x x
@@ -52,16 +30,16 @@ reached : (points : List Point) (t : Tri) (x e : List ℕ) → AreIn x e → rea
 reached points t x e among h =
     let above : (i : ℕ) → list_any (lies_above (side_plane t i)) (points_of points e) ≡ true → has_some_within (side_plane t i) (points_of points x) ≡ true =
     λ i a. or_right (list_any (lies_on (side_plane t i)) (points_of points x)) _ (any-points points (lies_above (side_plane t i)) x e among a) in
-    let first = and_left _ _ h in
-    let others = and_right (list_any (lies_above (side_plane t 0)) (points_of points e)) _ h in
-    let second = and_left _ _ others in
-    let third = and_left _ _ (and_right (list_any (lies_above (side_plane t 1)) (points_of points e)) _ others) in
-    and_both _ _ (and_both _ _ (above 0 first) (above 1 second)) (above 2 third)
+    let first = (and_parts _ _ h).0 in
+    let others = (and_parts (list_any (lies_above (side_plane t 0)) (points_of points e)) _ h).1 in
+    let second = (and_parts _ _ others).0 in
+    let third = (and_parts _ _ (and_parts (list_any (lies_above (side_plane t 1)) (points_of points e)) _ others).1).0 in
+    and_from _ _ (and_from _ _ (above 0 first) (above 1 second)) (above 2 third)
 
 wanted-reached : (points : List Point) (t : Tri) (i : ℕ) (x e : List ℕ) → AreIn x e → is_wanted t i (points_of points x) (points_of points e) ≡ true → (has_some_within (side_plane t 0) (points_of points x) && has_some_within (side_plane t 1) (points_of points x) && has_some_within (side_plane t 2) (points_of points x)) ≡ true
 unfolding is_wanted
-wanted-reached points t zero x e among a = reached points t x x (itself x) (and_right _ _ (and_left _ _ a))
-wanted-reached points t (suc i) x e among a = reached points t x e among (and_right _ _ a)
+wanted-reached points t zero x e among a = reached points t x x (itself x) (and_parts _ _ (and_parts _ _ a).0).1
+wanted-reached points t (suc i) x e among a = reached points t x e among (and_parts _ _ a).1
 
 -- none of one whose corners lie all beyond a side
 pub beyond-none : (points : List Point) (t : Tri) (i : ℕ) (x : List ℕ) → (has_some_within (side_plane t 0) (points_of points x) && has_some_within (side_plane t 1) (points_of points x) && has_some_within (side_plane t 2) (points_of points x)) ≡ false → wanted_in points t i x ≡ []
@@ -74,13 +52,13 @@ reach-more : (points : List Point) (t : Tri) (x e : List ℕ) → AreIn x e → 
 reach-more points t x e among h =
     let above : (i : ℕ) → list_any (lies_above (side_plane t i)) (points_of points e) ≡ true → list_any (lies_above (side_plane t i)) (points_of points x) ≡ true =
     λ i a. any-points points (lies_above (side_plane t i)) x e among a in
-    let others = and_right (list_any (lies_above (side_plane t 0)) (points_of points e)) _ h in
-    let third = and_left _ _ (and_right (list_any (lies_above (side_plane t 1)) (points_of points e)) _ others) in
-    and_both _ _ (above 0 (and_left _ _ h)) (and_both _ _ (above 1 (and_left _ _ others)) (and_both _ _ (above 2 third) refl))
+    let others = (and_parts (list_any (lies_above (side_plane t 0)) (points_of points e)) _ h).1 in
+    let third = (and_parts _ _ (and_parts (list_any (lies_above (side_plane t 1)) (points_of points e)) _ others).1).0 in
+    and_from _ _ (above 0 (and_parts _ _ h).0) (and_from _ _ (above 1 (and_parts _ _ others).0) (and_from _ _ (above 2 third) refl))
 
 wanted-reaches : (points : List Point) (t : Tri) (i : ℕ) (x e : List ℕ) → AreIn x e → is_wanted t (suc i) (points_of points x) (points_of points e) ≡ true → reaches t (points_of points x) ≡ true
 unfolding is_wanted
-wanted-reaches points t i x e among a = reach-more points t x e among (and_right _ _ a)
+wanted-reaches points t i x e among a = reach-more points t x e among (and_parts _ _ a).1
 
 unreached-none : (points : List Point) (t : Tri) (i : ℕ) (x : List ℕ) → reaches t (points_of points x) ≡ false → wanted_in points t (suc i) x ≡ []
 unfolding wanted_in

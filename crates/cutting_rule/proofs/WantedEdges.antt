@@ -1,9 +1,9 @@
 -- Wanted edges: none far from the triangle, and each with ends on both sides of the plane.
-use Rattle.std.proofs.Common.{◌≡◌, ◌⊎◌, ℕ, zero, suc, ℤ, pos, negsuc, ◌<◌, Bool, true, false, ◌&&◌, ◌||◌, if◌then◌else◌, nat_lt, nat_eq, int_le, List, [], ◌∷◌, map, length, All, refl, sym, ap, ◌∙◌, subst, inl, inr, arith}
+use Rattle.std.proofs.Common.{◌≡◌, ◌⊎◌, ℕ, zero, suc, ℤ, pos, negsuc, ◌<◌, Bool, true, false, ◌&&◌, ◌||◌, if◌then◌else◌, nat_lt, nat_eq, int_le, List, [], ◌∷◌, map, length, All, refl, sym, ◌∙◌, subst, inl, inr, arith}
 use Rattle.std.specs.Int.{int_signum}
 use Rattle.std.specs.Int.Signed.{lt_z}
 use Rattle.std.specs.List.{flat_map, filter, list_all, list_any, AllByRecursion as Each}
-use Rattle.std.proofs.lemmas.Bool.{cases_Bool, false_from_ne_true, true≢false, or_left, or_right, or_cases}
+use Rattle.std.proofs.lemmas.Bool.{cases_Bool, false_from_ne_true, true≢false, or_left, or_right, or_cases, and_parts, and_from, and_left}
 use Rattle.std.proofs.lemmas.Int.{ints}
 use Rattle.std.proofs.lemmas.Bool.Decides.{nat_tests}
 use Rattle.std.proofs.lemmas.List.Elements.{recursion_from_All}
@@ -19,6 +19,7 @@ use Rattle.mesh_types.specs.Phases.{points_of, edges, wanted_in}
 use Rattle.mesh_types.specs.Tracking.{in_order_once}
 use Rattle.mesh_types.proofs.ForCallers.{Each-of_flat_map, Each-in_order_once}
 use Rattle.cutting_rule.specs.Edges.{IsSplitEdge}
+use Rattle.cutting_rule.proofs.Meeting.{any-map}
 
 -- ---- ends on both sides of a plane
 sign-below : (m : Plane) (p : Point) → lies_below m p ≡ true → snap_sign m p ≡ negsuc 0
@@ -94,40 +95,25 @@ edges_in (a ∷ b ∷ c ∷ d ∷ []) =
 edges_in x = tt
 
 -- ---- boxes
-any-map : {X Y : Type 0} (test : Y → Bool) (f : X → Y) (xs : List X) → list_any test (map f xs) ≡ list_any (λ x. test (f x)) xs
-any-map test f [] = refl
-any-map test f (x ∷ xs) = ap (λ (b : Bool). test (f x) || b) (any-map test f xs)
-
 any-more : (points : List Point) (f : Point → ℤ) (test : ℤ → Bool) (x e : List ℕ) → AreIn x e → list_any test (map f (points_of points e)) ≡ true → list_any test (map f (points_of points x)) ≡ true
 any-more points f test x e h a =
     let through : (y : List ℕ) → list_any test (map f (points_of points y)) ≡ list_any (λ c. test (f (point_at points c))) y = λ y. any-map test f (points_of points y) ∙ any-map (λ p. test (f p)) (point_at points) y in
     through x ∙ h (λ c. test (f (point_at points c))) (sym (through e) ∙ a)
 
-and_left : (p q : Bool) → (p && q) ≡ true → p ≡ true
-and_left true q e = refl
-and_left false q e = e
-
-and_right : (p q : Bool) → (p && q) ≡ true → q ≡ true
-and_right true q e = e
-and_right false q e = cc
-
-and_both : (p q : Bool) → p ≡ true → q ≡ true → (p && q) ≡ true
-and_both p q e f = rw (e, f) refl
-
 ranges-more : (points : List Point) (f : Point → ℤ) (ws : List ℤ) (x e : List ℕ) → AreIn x e → ranges_meet (map f (points_of points e)) ws ≡ true → ranges_meet (map f (points_of points x)) ws ≡ true
 ranges-more points f ws x e h a =
-    and_both _ _
-    (any-more points f (λ v. list_any (λ w. int_le v w) ws) x e h (and_left _ _ a))
-    (any-more points f (λ v. list_any (λ w. int_le w v) ws) x e h (and_right _ _ a))
+    and_from _ _
+    (any-more points f (λ v. list_any (λ w. int_le v w) ws) x e h (and_parts _ _ a).0)
+    (any-more points f (λ v. list_any (λ w. int_le w v) ws) x e h (and_parts _ _ a).1)
 
 boxes-more : (points qs : List Point) (x e : List ℕ) → AreIn x e → boxes_meet (points_of points e) qs ≡ true → boxes_meet (points_of points x) qs ≡ true
 unfolding boxes_meet
 boxes-more points qs x e h a =
-    and_both _ _
-    (and_both _ _
-    (ranges-more points (λ p. p.x) (map (λ p. p.x) qs) x e h (and_left _ _ (and_left _ _ a)))
-    (ranges-more points (λ p. p.y) (map (λ p. p.y) qs) x e h (and_right _ _ (and_left _ _ a))))
-    (ranges-more points (λ p. p.z) (map (λ p. p.z) qs) x e h (and_right _ _ a))
+    and_from _ _
+    (and_from _ _
+    (ranges-more points (λ p. p.x) (map (λ p. p.x) qs) x e h (and_parts _ _ (and_parts _ _ a).0).0)
+    (ranges-more points (λ p. p.y) (map (λ p. p.y) qs) x e h (and_parts _ _ (and_parts _ _ a).0).1))
+    (ranges-more points (λ p. p.z) (map (λ p. p.z) qs) x e h (and_parts _ _ a).1)
 
 -- ---- a phase wants no edge of a tetrahedron whose box does not meet the triangle's
 false-and3 : (p q r s : Bool) → p ≡ false → (p && q && r && s) ≡ false
@@ -136,12 +122,9 @@ false-and3 p q r s e = rw e refl
 false-and2 : (p q r : Bool) → p ≡ false → (p && q && r) ≡ false
 false-and2 p q r e = rw e refl
 
-false-and : (p q : Bool) → p ≡ false → (p && q) ≡ false
-false-and p q e = rw e refl
-
 unwanted : (points : List Point) (t : Tri) (i : ℕ) (x e : List ℕ) → boxes_meet (points_of points x) t.0 ≡ false → AreIn x e → is_wanted t i (points_of points x) (points_of points e) ≡ false
 unfolding is_wanted
-unwanted points t zero x e h among = false-and _ _ (false-and2 _ _ _ h)
+unwanted points t zero x e h among = and_left _ _ (false-and2 _ _ _ h)
 unwanted points t (suc i) x e h among =
     false-and3 _ _ _ _ (false_from_ne_true (boxes_meet (points_of points e) t.0) (λ a. true≢false (sym (boxes-more points t.0 x e among a) ∙ h)))
 
@@ -156,7 +139,7 @@ far-none points t i x h = filter-none _ (AreIn x) (λ e among. unwanted points t
 -- the first phase wants none of a tetrahedron that is not crossed
 pub uncrossed-none : (points : List Point) (t : Tri) (x : List ℕ) → is_crossed t (points_of points x) ≡ false → wanted_in points t 0 x ≡ []
 unfolding wanted_in is_wanted
-uncrossed-none points t x h = filter-none _ (AreIn x) (λ e among. false-and _ _ h) (edges x) (edges_in x)
+uncrossed-none points t x h = filter-none _ (AreIn x) (λ e among. and_left _ _ h) (edges x) (edges_in x)
 
 -- a later phase wants none of a tetrahedron that has no corner on the triangle's plane, or that its plane does not split
 pub any-points : (points : List Point) (test : Point → Bool) (x e : List ℕ) → AreIn x e → list_any test (points_of points e) ≡ true → list_any test (points_of points x) ≡ true
@@ -165,18 +148,18 @@ any-points points test x e h a =
 
 some-of_all : (p q : Point → Bool) (ps : List Point) → list_any p ps ≡ true → list_all q ps ≡ true → list_any q ps ≡ true
 some-of_all p q [] a b = a
-some-of_all p q (x ∷ ps) a b = or_left (q x) (list_any q ps) (and_left (q x) (list_all q ps) b)
+some-of_all p q (x ∷ ps) a b = or_left (q x) (list_any q ps) (and_parts (q x) (list_all q ps) b).0
 
 may-want : (points : List Point) (t : Tri) (i : ℕ) (x e : List ℕ) → AreIn x e → is_wanted t (suc i) (points_of points x) (points_of points e) ≡ true → (list_any (lies_on (section_plane t)) (points_of points x) && splits (side_plane t i) (points_of points x)) ≡ true
 unfolding is_wanted
 may-want points t i x e among h =
-    let apart = and_right (boxes_meet (points_of points e) t.0 && list_all (lies_on (section_plane t)) (points_of points e)) (splits (side_plane t i) (points_of points e)) (and_left _ _ h) in
-    let on = and_right (boxes_meet (points_of points e) t.0) (list_all (lies_on (section_plane t)) (points_of points e)) (and_left _ _ (and_left _ _ h)) in
-    let below = and_left (list_any (lies_below (side_plane t i)) (points_of points e)) (list_any (lies_above (side_plane t i)) (points_of points e)) apart in
-    let above = and_right (list_any (lies_below (side_plane t i)) (points_of points e)) (list_any (lies_above (side_plane t i)) (points_of points e)) apart in
-    and_both _ _
+    let apart = (and_parts (boxes_meet (points_of points e) t.0 && list_all (lies_on (section_plane t)) (points_of points e)) (splits (side_plane t i) (points_of points e)) (and_parts _ _ h).0).1 in
+    let on = (and_parts (boxes_meet (points_of points e) t.0) (list_all (lies_on (section_plane t)) (points_of points e)) (and_parts _ _ (and_parts _ _ h).0).0).1 in
+    let below = (and_parts (list_any (lies_below (side_plane t i)) (points_of points e)) (list_any (lies_above (side_plane t i)) (points_of points e)) apart).0 in
+    let above = (and_parts (list_any (lies_below (side_plane t i)) (points_of points e)) (list_any (lies_above (side_plane t i)) (points_of points e)) apart).1 in
+    and_from _ _
     (any-points points (lies_on (section_plane t)) x e among (some-of_all (lies_below (side_plane t i)) (lies_on (section_plane t)) (points_of points e) below on))
-    (and_both _ _ (any-points points (lies_below (side_plane t i)) x e among below) (any-points points (lies_above (side_plane t i)) x e among above))
+    (and_from _ _ (any-points points (lies_below (side_plane t i)) x e among below) (any-points points (lies_above (side_plane t i)) x e among above))
 
 pub later-none : (points : List Point) (t : Tri) (i : ℕ) (x : List ℕ) → 0 < i → (list_any (lies_on (section_plane t)) (points_of points x) && splits (phase_plane t i) (points_of points x)) ≡ false → wanted_in points t i x ≡ []
 unfolding wanted_in
@@ -231,18 +214,10 @@ edges_are n (a ∷ b ∷ c ∷ d ∷ []) differ low =
     )
 edges_are n x differ low = tt
 
--- the ends of the edges of a tetrahedron are points
-pub edges-low : (n : ℕ) (x : List ℕ) → IsTet n x → Each (λ e. Each (λ u. u < n) e) (edges x)
-edges-low n x h = weaker (edges x) (edges_are n x h.different (recursion_from_All (λ c. c < n) x h.in_range))
-  where
-    weaker : (es : List (List ℕ)) → Each (IsEdge n) es → Each (λ e. Each (λ u. u < n) e) es
-    weaker [] k = tt
-    weaker (e ∷ es) k = (subst (Each (λ u. u < n)) (sym k.0.is) (omega (arith, k.0.rises, k.0.in_range), (k.0.in_range, tt)), weaker es k.1)
-
 wanted-splits : (t : Tri) (i : ℕ) (corners ends : List Point) → is_wanted t i corners ends ≡ true → splits (phase_plane t i) ends ≡ true
 unfolding is_wanted
-wanted-splits t zero corners ends h = and_right _ _ h
-wanted-splits t (suc i) corners ends h = and_right _ _ (and_left _ _ h)
+wanted-splits t zero corners ends h = (and_parts _ _ h).1
+wanted-splits t (suc i) corners ends h = (and_parts _ _ (and_parts _ _ h).0).1
 
 filter-each : (points : List Point) (t : Tri) (i : ℕ) (x : List ℕ) (es : List (List ℕ)) → Each (IsEdge (length points)) es → Each (IsSplitEdge points (phase_plane t i)) (filter (λ e. is_wanted t i (points_of points x) (points_of points e)) es)
 filter-each points t i x [] h = tt

@@ -9,12 +9,14 @@ mod edge;
 mod section;
 mod signs;
 mod spread;
+mod touch;
 mod triangle;
 mod wanted;
 
 pub use bounds::Bounds;
 pub use cuts::cut_between;
 pub use edge::{Edge, sort_edges_once};
-pub use section::{push_section, sort_faces_once};
+pub use section::{may_have_section, push_section, sort_faces_once};
+pub use touch::Touch;
 pub use triangle::CuttingTriangle;
-pub use wanted::{push_wanted, push_wanted_of};
+pub use wanted::{push_along, push_crossed, push_wanted};

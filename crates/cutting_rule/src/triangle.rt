@@ -1,19 +1,20 @@
 // A triangle that cuts, with its planes.
 ghost use Rattle.cutting_rule.specs.Bounds.{AreBounds};
-ghost use Rattle.cutting_rule.specs.Touching.{IsReach, touch};
+ghost use Rattle.cutting_rule.specs.Touching.{IsReach, signs_at, touch, wants_along};
 ghost use Rattle.grid.specs.Boxes.{IsInBox, IsTriInBox};
 ghost use Rattle.grid.specs.Limits.{largest_side};
-ghost use Rattle.grid.specs.Planes.{IsDegenerate};
+ghost use Rattle.grid.specs.Planes.{IsDegenerate, side_plane, snap_sign};
 ghost use Rattle.grid.specs.Planes;
 ghost use Rattle.grid.specs.declared.shapes.Point.{Point};
-ghost use Rattle.mesh_types.specs.CuttingRule.{boxes_meet, is_crossed, is_in_section, is_wanted, lies_above, lies_below, lies_on, phase_plane, reaches, section_plane, splits};
-ghost use Rattle.mesh_types.specs.Phases.{points_of, wanted_in};
+ghost use Rattle.mesh_types.specs.CuttingRule.{boxes_meet, is_crossed, is_in_section, is_wanted, lies_above, lies_below, phase_plane, reaches, section_plane, splits, three_sides};
 ghost use Rattle.std.specs.List.{list_all, list_any};
-ghost use Rattle.std.specs.Prelude.{All, List, [], false, map, true, ℕ, ◌&&◌, ◌<◌, ◌≡◌};
+ghost use Rattle.std.specs.Ordering.{int_eq};
+ghost use Rattle.std.specs.Prelude.{All, List, [], map, not, pos, ◌&&◌, ◌<◌, ◌∷◌, ◌≡◌};
 
 use crate::bounds::{Bounds, bounds_of};
-use crate::signs::{all_above, is_crossed, may_want_along, signs_of};
+use crate::signs::{Snapped, all_above, are_on, corner_signs, is_crossed, is_on, may_want_along, signs_of, snap_corners};
 use crate::spread::{length_above, longest, spread_box};
+use crate::touch::Touch;
 use grid::{Point, Tri};
 use planes::{Plane, plane_of, side_plane};
 use std::marker::Model;
@@ -71,7 +72,7 @@ impl CuttingTriangle {
     }
 
     /// Whether the points lie on both sides of the plane of a phase.
-    pub(crate) fn splits(&self, i: u32, points: &[Point]) -> bool
+    fn splits(&self, i: u32, points: &[Point]) -> bool
         requires index { i < 4 }
         requires points_in { All (IsInBox largest_side) points.now }
         ensures { result ≡ splits (phase_plane self.now i) points.now }
@@ -81,7 +82,7 @@ impl CuttingTriangle {
     }
 
     /// Whether there is no side beyond which, or on which, all the points lie.
-    pub(crate) fn reaches(&self, points: &[Point]) -> bool
+    fn reaches(&self, points: &[Point]) -> bool
         requires { All (IsInBox largest_side) points.now }
         ensures { result ≡ reaches self.now points.now }
     {
@@ -100,16 +101,6 @@ impl CuttingTriangle {
             }
         }
         false
-    }
-
-    /// Whether all the points lie on the triangle's plane.
-    #[tactic(auto, using(crate::proofs::Sides::all_on))]
-    fn has_on_plane(&self, points: &[Point]) -> bool
-        requires { All (IsInBox largest_side) points.now }
-        ensures { result ≡ list_all (lies_on (section_plane self.now)) points.now }
-    {
-        let signs = signs_of(&self.plane, points);
-        !signs.below && !signs.above
     }
 
     /// The bounding box.
@@ -138,55 +129,29 @@ impl CuttingTriangle {
     }
 
     /// Whether a tetrahedron of these corners is crossed.
-    fn crosses(&self, corners: &[Point; 4]) -> bool
+    pub(crate) fn crosses(&self, corners: &[Point; 4]) -> bool
         requires { All (IsInBox largest_side) corners.now }
         ensures { result ≡ is_crossed self.now corners.now }
     {
         self.meets(corners) && self.splits(0, corners) && self.reaches(corners)
     }
 
-    /// Whether phase i may want edges of a tetrahedron of these corners.
-    pub(crate) fn may_want(&self, i: u32, corners: &[Point; 4]) -> bool
-        requires index { i < 4 }
-        requires corners_in { All (IsInBox largest_side) corners.now }
-        ensures no { result ≡ false → (points : List Point) (x : List ℕ) → corners.now ≡ points_of points x → wanted_in points self.now i x ≡ [] }
-        ensures yes { result ≡ true → i ≡ 0 → is_crossed self.now corners.now ≡ true }
+    /// The snapped signs of corners at the triangle's plane.
+    pub fn signs(&self, corners: &[Point; 4]) -> [i8; 4]
+        requires { All (IsInBox largest_side) corners.now }
+        ensures { result ≡ signs_at self.now corners.now }
     {
-        if i == 0 {
-            self.crosses(corners)
-        } else {
-            self.may_want_later(i, corners)
-        }
+        corner_signs(&self.plane, corners)
     }
 
-    /// Whether some of the corners are on the triangle's plane, and they lie on both sides of the plane
-    /// of a phase.
-    fn may_want_later(&self, i: u32, corners: &[Point; 4]) -> bool
-        requires index { i < 4 }
-        requires corners_in { All (IsInBox largest_side) corners.now }
-        ensures { result ≡ (list_any (lies_on (section_plane self.now)) corners.now && splits (phase_plane self.now i) corners.now) }
-    {
-        self.has_some_on_plane(corners) && self.splits(i, corners)
-    }
-
-    /// Whether some of the points lie on the triangle's plane.
-    fn has_some_on_plane(&self, points: &[Point]) -> bool
-        requires { All (IsInBox largest_side) points.now }
-        ensures { result ≡ list_any (lies_on (section_plane self.now)) points.now }
-    {
-        let signs = signs_of(&self.plane, points);
-        signs.on
-    }
-
-    /// The phases that may want edges of a tetrahedron of these corners, where the corners touch the
-    /// triangle's plane and lie not all beyond one of its sides. Of any other tetrahedron no phase wants
-    /// an edge, and no face is in the section.
-    pub fn touch(&self, corners: &[Point; 4]) -> Option<[bool; 4]>
+    /// Which phases may want edges of a tetrahedron of these corners, and their signs at the triangle's
+    /// plane. None where the corners lie all on one side of that plane, or all beyond one of the sides.
+    pub fn touch(&self, corners: &[Point; 4]) -> Option<Touch>
         requires { All (IsInBox largest_side) corners.now }
         ensures { result ≡ touch self.now corners.now }
     {
-        let plane = signs_of(&self.plane, corners);
-        if !plane.is_touched() {
+        let Snapped { each, all } = snap_corners(&self.plane, corners);
+        if !all.is_touched() {
             return None;
         }
         let first = signs_of(&self.side_0, corners);
@@ -202,47 +167,55 @@ impl CuttingTriangle {
             return None;
         }
         let reaches = all_above(first, second, third);
-        Some([
-            is_crossed(self.meets(corners), plane, reaches),
-            may_want_along(plane, first, reaches),
-            may_want_along(plane, second, reaches),
-            may_want_along(plane, third, reaches),
-        ])
+        Some(Touch {
+            phases: [
+                is_crossed(self.meets(corners), all, reaches),
+                may_want_along(all, first, reaches),
+                may_want_along(all, second, reaches),
+                may_want_along(all, third, reaches),
+            ],
+            signs: each,
+        })
     }
 
-    /// Whether a phase wants the edge of these ends in a tetrahedron of these corners.
-    pub(crate) fn wants(&self, i: u32, corners: &[Point; 4], ends: &[Point; 2]) -> bool
+    /// Whether a phase after the first wants the edge of two points with these signs at the triangle's
+    /// plane.
+    pub(crate) fn wants_along(&self, i: u32, sign: i8, p: Point, other: i8, q: Point) -> bool
         requires index { i < 4 }
-        requires ends_in { All (IsInBox largest_side) ends.now }
-        requires crossed { i ≡ 0 → is_crossed self.now corners.now ≡ true }
-        ensures { result ≡ is_wanted self.now i corners.now ends.now }
+        requires p_in { IsInBox largest_side p }
+        requires q_in { IsInBox largest_side q }
+        ensures { result ≡ wants_along self.now i sign other (p ∷ q ∷ []) }
     {
-        if i == 0 {
-            self.splits(0, ends)
-        } else {
-            self.wants_later(i, ends)
+        if !are_on(sign, other) {
+            return false;
         }
+        self.wants_on_plane(i, &[p, q])
     }
 
-    /// Whether a phase after the first wants the edge of these ends.
-    fn wants_later(&self, i: u32, ends: &[Point; 2]) -> bool
+    /// Whether a phase after the first wants the edge of these ends, where they are on the triangle's
+    /// plane.
+    fn wants_on_plane(&self, i: u32, ends: &[Point; 2]) -> bool
         requires index { i < 4 }
         requires ends_in { All (IsInBox largest_side) ends.now }
-        ensures { result ≡ (splits (phase_plane self.now i) ends.now && (list_all (lies_on (section_plane self.now)) ends.now && (reaches self.now ends.now && boxes_meet ends.now self.now.0))) }
+        ensures { result ≡ (splits (phase_plane self.now i) ends.now && (reaches self.now ends.now && boxes_meet ends.now self.now.0)) }
     {
-        self.splits(i, ends) && self.has_on_plane(ends) && self.reaches(ends) && self.meets(ends)
+        self.splits(i, ends) && self.reaches(ends) && self.meets(ends)
     }
 
-    /// Whether a point is in the triangle's section.
-    #[tactic(auto, unfolding(mesh_types::specs::CuttingRule::is_in_section))]
-    pub fn has_in_section(&self, p: Point) -> bool
+    /// Whether a point with this sign at the triangle's plane is in the triangle's section.
+    pub(crate) fn has_in_section(&self, sign: i8, p: Point) -> bool
         requires { IsInBox largest_side p }
-        ensures { result ≡ is_in_section self.now p }
+        ensures { result ≡ (int_eq sign (pos 0) && list_all (λ i. not (lies_below (side_plane self.now i) p)) three_sides) }
     {
-        self.has_on_plane(&[p])
-            && !self.is_beyond(1, p)
-            && !self.is_beyond(2, p)
-            && !self.is_beyond(3, p)
+        is_on(sign) && self.is_within_sides(p)
+    }
+
+    /// Whether a point lies below none of the sides.
+    fn is_within_sides(&self, p: Point) -> bool
+        requires { IsInBox largest_side p }
+        ensures { result ≡ list_all (λ i. not (lies_below (side_plane self.now i) p)) three_sides }
+    {
+        !self.is_beyond(1, p) && !self.is_beyond(2, p) && !self.is_beyond(3, p)
     }
 
     /// Whether a point lies below the plane of a phase.

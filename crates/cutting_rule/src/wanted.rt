@@ -1,33 +1,18 @@
 // The edges of a tetrahedron that a phase wants.
 ghost use Rattle.cutting_rule.specs.Edges.{numbers_of};
+ghost use Rattle.cutting_rule.specs.Touching.{signs_at};
 ghost use Rattle.grid.specs.Boxes.{IsInBox};
 ghost use Rattle.grid.specs.Limits.{largest_side};
 ghost use Rattle.grid.specs.declared.shapes.Point.{Point};
-ghost use Rattle.mesh_types.specs.CuttingRule.{is_crossed, is_wanted};
+ghost use Rattle.grid.specs.declared.shapes.Tri.{Tri};
+ghost use Rattle.mesh_types.specs.CuttingRule.{is_crossed};
 ghost use Rattle.mesh_types.specs.Phases.{points_of, wanted_in};
-ghost use Rattle.std.specs.Prelude.{All, List, OnOk, [], if◌then◌else◌, true, ◌++◌, ◌<◌, ◌∷◌, ◌≡◌};
+ghost use Rattle.std.specs.Prelude.{All, List, OnOk, true, ◌++◌, ◌<◌, ◌≡◌};
 
-use crate::edge::{Edge, Segment, segments};
+use crate::edge::{Edge, push_if};
+use crate::signs::are_opposite;
 use crate::triangle::CuttingTriangle;
 use grid::{Memory, Point, Tet};
-
-fn push_if_wanted(
-    triangle: &CuttingTriangle,
-    i: u32,
-    corners: &[Point; 4],
-    segment: Segment,
-    into: &mut Vec<Edge>,
-) -> Result<(), Memory>
-    requires index { i < 4 }
-    requires ends_in { All (IsInBox largest_side) segment.ends }
-    requires crossed { i ≡ 0 → is_crossed triangle.now corners.now ≡ true }
-    ensures { OnOk result (numbers_of into.new.items ≡ numbers_of into.old.items ++ (if is_wanted triangle.now i corners.now segment.ends then segment.edge.0 ∷ [] else [])) }
-{
-    if triangle.wants(i, corners, &segment.ends) {
-        into.push(segment.edge)?;
-    }
-    Ok(())
-}
 
 /// Adds the edges of a tetrahedron that phase i of the triangle wants, where the corners are its points.
 pub fn push_wanted(
@@ -41,28 +26,62 @@ pub fn push_wanted(
     requires corners_in { All (IsInBox largest_side) corners.now }
     ensures { OnOk result ((points : List Point) → corners.now ≡ points_of points tet.0 → numbers_of into.new.items ≡ numbers_of into.old.items ++ wanted_in points triangle.now i tet.0) }
 {
-    if !triangle.may_want(i, corners) {
+    let signs = triangle.signs(corners);
+    if i > 0 {
+        push_along(triangle, i, tet, corners, signs, into)?;
         return Ok(());
     }
-    push_wanted_of(triangle, i, tet, corners, into)?;
+    if !triangle.crosses(corners) {
+        return Ok(());
+    }
+    push_crossed(tet, signs, into)?;
     Ok(())
 }
 
-/// The same, where the phase may want edges of the tetrahedron.
-pub fn push_wanted_of(
+/// Adds the edges that phase 0 of a triangle wants of a tetrahedron that it crosses, by the signs of the
+/// corners at its plane: those whose ends have opposite signs.
+pub fn push_crossed(tet: Tet, signs: [i8; 4], into: &mut Vec<Edge>) -> Result<(), Memory>
+    ensures { OnOk result ((points : List Point) (t : Tri) → signs ≡ signs_at t (points_of points tet.0) → is_crossed t (points_of points tet.0) ≡ true → numbers_of into.new.items ≡ numbers_of into.old.items ++ wanted_in points t 0 tet.0) }
+{
+    let Tet([a, b, c, d]) = tet;
+    push_if(are_opposite(signs[0], signs[1]), a, b, into)?;
+    push_if(are_opposite(signs[0], signs[2]), a, c, into)?;
+    push_if(are_opposite(signs[0], signs[3]), a, d, into)?;
+    push_if(are_opposite(signs[1], signs[2]), b, c, into)?;
+    push_if(are_opposite(signs[1], signs[3]), b, d, into)?;
+    push_if(are_opposite(signs[2], signs[3]), c, d, into)?;
+    Ok(())
+}
+
+/// Adds the edges of a tetrahedron that a phase after the first wants, by the signs of the corners at the
+/// triangle's plane: only edges with both ends on it are looked at further.
+pub fn push_along(
     triangle: &CuttingTriangle,
     i: u32,
     tet: Tet,
     corners: &[Point; 4],
+    signs: [i8; 4],
     into: &mut Vec<Edge>,
 ) -> Result<(), Memory>
-    requires index { i < 4 }
+    requires first { 0 < i }
+    requires last { i < 4 }
     requires corners_in { All (IsInBox largest_side) corners.now }
-    requires crossed { i ≡ 0 → is_crossed triangle.now corners.now ≡ true }
+    requires signs { signs ≡ signs_at triangle.now corners.now }
     ensures { OnOk result ((points : List Point) → corners.now ≡ points_of points tet.0 → numbers_of into.new.items ≡ numbers_of into.old.items ++ wanted_in points triangle.now i tet.0) }
 {
-    for segment in segments(tet, corners) {
-        push_if_wanted(triangle, i, corners, segment, into)?;
-    }
+    let Tet([a, b, c, d]) = tet;
+    let [p, q, r, s] = *corners;
+    let ab = triangle.wants_along(i, signs[0], p, signs[1], q);
+    let ac = triangle.wants_along(i, signs[0], p, signs[2], r);
+    let ad = triangle.wants_along(i, signs[0], p, signs[3], s);
+    let bc = triangle.wants_along(i, signs[1], q, signs[2], r);
+    let bd = triangle.wants_along(i, signs[1], q, signs[3], s);
+    let cd = triangle.wants_along(i, signs[2], r, signs[3], s);
+    push_if(ab, a, b, into)?;
+    push_if(ac, a, c, into)?;
+    push_if(ad, a, d, into)?;
+    push_if(bc, b, c, into)?;
+    push_if(bd, b, d, into)?;
+    push_if(cd, c, d, into)?;
     Ok(())
 }

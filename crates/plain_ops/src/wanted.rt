@@ -71,7 +71,8 @@ fn section_of(
     let mut faces = Vec::new(alloc);
     for tet in tets {
         let corners = corner_points(points, *tet);
-        push_section(triangle, *tet, &corners, &mut faces)?;
+        let signs = triangle.signs(&corners);
+        push_section(triangle, *tet, &corners, signs, &mut faces)?;
     }
     Ok(faces)
 }

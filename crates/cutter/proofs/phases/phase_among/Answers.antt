@@ -25,7 +25,7 @@ returns-in-Ok-clause-near c =
     let lo = c.args.near.now.reach.lo in
     let hi = c.args.near.now.reach.hi in
     let first : c.made-first.result ≡ length old.slots = c.made-first.ensures.count ∙ ap length c.slots.ensures.slots in
-    touching-grown t lo hi old new c.args.near.now.slots.items c.in-Ok.slots.items c.in_ok-count.ensures.grown c.slots.ensures.sound.tets_are c.requires.near
+    touching-grown t old new c.args.near.now c.in-Ok.slots c.in_ok-count.ensures.grown c.slots.ensures.sound.tets_are c.requires.near
     (c.in-Ok.ensures
     ∙ (λ j.
     filter (λ (e : Touched). (slot_at (c.slots-2.ensures.slots j) e.slot).live) (c.deref.ensures.value j)

@@ -1,10 +1,9 @@
-use Rattle.std.proofs.Common.{ap, map, ◌∙◌, arith}
+use Rattle.std.proofs.Common.{ap, map, refl, ◌∙◌, arith}
 use Rattle.std.specs.List.{flat_map}
-use Rattle.grid.specs.Limits.{largest_side}
 use Rattle.tet_slots.specs.Searches.{numbers_of as found_numbers}
 use Rattle.tet_slots.specs.Slots.{slot_at}
 use Rattle.cutting_rule.specs.Section.{section_in}
-use Rattle.cutting_rule.proofs.ForCallers.{points-in, mapped-step, mapped-end}
+use Rattle.cutting_rule.proofs.ForCallers.{mapped-step, mapped-end}
 use Rattle.cutter.specs.declared.touching.Touched.{Touched}
 use Rattle.cutter.specs.Found.{is_touching}
 use Rattle.cutter.proofs.Meeting.{live-touching, not-touching}
@@ -13,23 +12,26 @@ use Rattle.cutter.proofs.TouchedSlots.{known-at, no_touched, tets-touched}
 use Rattle.cutter.proofs.SectionPlaces.{far-sections}
 use Rattle.cutter.proofs.sections.section_faces.Goals as goal
 
-pub tet-tet-requires : goal.tet-tet-requires
-tet-tet-requires c =
+pub push_section_at-requires-clause-there : goal.push_section_at-requires-clause-there
+push_section_at-requires-clause-there c =
     let points = c.args.slots.now.points in
     let t = c.args.triangle.now in
     let near = c.requires.near in
     (known-at points c.args.slots.now.slots t (is_touching points t c.args.near.now.reach.lo c.args.near.now.reach.hi) c.deref-touched-items.result.now (c.deref-touched-items.ensures.value ∙ near.found) c.loop-touched.touched-index no_touched (omega arith)).0
 
-pub push_section-requires : goal.push_section-requires
-push_section-requires c =
-    points-in largest_side c.args.slots.now.points c.corner_points-corners.result c.tet-tet.result.0 c.corner_points-corners.ensures c.requires.in_box c.tet-tet.ensures.corners.in_range
+pub push_section_at-requires-clause-touched : goal.push_section_at-requires-clause-touched
+push_section_at-requires-clause-touched c =
+    let points = c.args.slots.now.points in
+    let t = c.args.triangle.now in
+    let near = c.requires.near in
+    (known-at points c.args.slots.now.slots t (is_touching points t c.args.near.now.reach.lo c.args.near.now.reach.hi) c.deref-touched-items.result.now (c.deref-touched-items.ensures.value ∙ near.found) c.loop-touched.touched-index no_touched (omega arith)).1
 
 pub loop-touched-preserved : goal.loop-touched-preserved
 loop-touched-preserved c =
     let points = c.args.slots.now.points in
     let slots = c.args.slots.now.slots in
-    mapped-step (λ (e : Touched). (slot_at slots e.slot).tet.0) (section_in points c.args.triangle.now) c.deref-touched-items.result.now c.loop-touched.touched-index no_touched c.tet-tet.result.0 _ _ _ (omega arith) (ap (λ t. t.0) c.tet-tet.ensures.value)
-    (c.in_ok-push_section.ensures points c.corner_points-corners.ensures) c.loop-touched.invariant
+    mapped-step (λ (e : Touched). (slot_at slots e.slot).tet.0) (section_in points c.args.triangle.now) c.deref-touched-items.result.now c.loop-touched.touched-index no_touched _ _ _ _ (omega arith) refl
+    c.in_ok-push_section_at.ensures c.loop-touched.invariant
 
 pub returns : goal.returns
 returns c =

@@ -10,6 +10,6 @@ invariant-loop-i l = record {
   started : IsSome l.store.at_begin;
   goes_on : (start : Parts) (side : ℤ) → IsOpenFrom start side l.initial.store → IsOpenFrom start side l.store;
   mesh : mesh_in l.store.parts ≡ until (mesh_in l.initial.store.parts) l.triangle l.i;
-  near : AreTouching l.store.parts.points l.store.parts.slots l.triangle l.near.reach.lo l.near.reach.hi l.near.slots.items;
+  near : AreTouching l.store.parts.points l.store.parts.slots l.triangle l.near;
   count : length l.initial.store.parts.points + l.points ≡ length l.store.parts.points;
 }
