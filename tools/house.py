@@ -3,10 +3,12 @@
 
 Usage: house.py [KIND..], where the kinds are
 
-  alike    lemmas that are alike up to the names of their binders
-  uncited  lemmas and definitions that nothing cites; a lemma that `search` finds by itself is named too
+  alike    lemmas alike up to the names of their binders, other than predicates, and other than what a
+           module keeps to itself, which speaks of its parameters
+  uncited  lemmas and definitions that nothing cites, other than what `search` finds by itself, which has
+           a comment "for `search`" above them
   wide     lines over 110 columns, other than those that `rt fmt` lays out, and rows of tables
-  limits   named limits that are written as numbers
+  limits   named limits that are written as numbers, other than in texts and in the list of all powers of two
   tables   crates that the README or docs/ARCHITECTURE.md lacks, or names in another order
   long     files past 500 lines, and functions past 40
 """
@@ -21,11 +23,15 @@ TOP = Path(__file__).resolve().parent.parent
 WIDEST, LONGEST_FILE, LONGEST_FUNCTION = 110, 500, 40
 LIMIT = re.compile(r"(?<![\w.])(?:4095|262_?144|2 \^ 18|1 << 18|2 \^ 20|2 \^ 22|1 << 20|1 << 22)(?!\w)")
 NAMES_LIMIT = re.compile(r"^\w+ = [^ ]+( \^ \d+)?$|\bconst [A-Z_]+:")
+TEXT = re.compile(r'"[^"]*"')
+POWERS = re.compile(r"131072 . 262144|^ *[|] 262144")
 LIMIT_HOMES = re.compile(r"/specs/Limits\.antt$|/src/limits\.rt$|/tests(/|\.rt$)")
 DECLARED = re.compile(r"^(?:abbrev |unfoldable )?(?:pub )?([^\s:(){}]+)((?: [({].*?[)}])*) :(?= |$)(.*)$")
 RECORD = re.compile(r"^(?:pub )?(?:record|data) (\S+)")
 LAID_OUT = re.compile(r'^\s*(ghost|requires|ensures)|[λ≡→]|b?"[^"]{60}')
 TOKEN = re.compile(r"[^\s(){}\[\],;.⟦⟧⟨⟩\"`]+")
+FOUND_BY_SEARCH = re.compile(r" *-- .*for `search`")
+RUST_PATH = re.compile(r"\b(\w+)::proofs::(\w+)::(\w+)")
 BINDER = re.compile(r"[({]((?:[^\s(){}:]+ )+):(?= )")
 
 
@@ -44,11 +50,19 @@ def place(path, line):
 class Declaration:
     """A named statement or definition of a specs or proofs file: where it stands, and its lines."""
 
-    def __init__(self, path, first, name, kind, text):
+    def __init__(self, path, first, name, kind, text, comment):
         self.path, self.first, self.name, self.kind, self.text = path, first, name, kind, text
+        self.comment = comment
 
     def place(self):
         return place(self.path, self.first + 1)
+
+    def is_kept_in(self):
+        """Whether a module keeps it to itself."""
+        return self.text[0].startswith(" ") and not self.text[0].lstrip().startswith("pub ")
+
+    def is_predicate(self):
+        return self.kind.endswith("Type 0")
 
 
 def declarations(path, lines):
@@ -87,7 +101,8 @@ def made(path, lines, number, name, kind, margin):
         if not text.startswith("    →"):
             break
         more.append(text.strip())
-    return Declaration(path, number, name, " ".join([kind, *more]).strip(), lines[number:end])
+    comment = lines[number - 1] if number else ""
+    return Declaration(path, number, name, " ".join([kind, *more]).strip(), lines[number:end], comment)
 
 
 def all_declarations():
@@ -109,6 +124,8 @@ def alike():
     for each in all_declarations():
         if "/proofs/" not in str(each.path) or "goal." in each.kind:
             continue
+        if each.is_kept_in() or each.is_predicate():
+            continue
         text, binders = shape(each.kind)
         if binders == 0 or len(text) < 30:
             continue
@@ -128,6 +145,9 @@ def imports():
         for module, name in re.findall(r"\buse ([\w.+-]+)\.([^\s.{};]+)(?: as [^\s;]+)?;?$", text, re.M):
             taken[module].add(name)
             taken[f"{module}.{name}"].add("*")
+        for crate, file, name in RUST_PATH.findall(text):
+            home = path.relative_to(TOP / "crates").parts[0] if crate == "crate" else crate
+            taken[f"Rattle.{home}.proofs.{file}"].add(name)
     return taken
 
 
@@ -150,6 +170,8 @@ def uncited():
         module = ".".join(["Rattle", *path.relative_to(TOP / "crates").with_suffix("").parts])
         counts = citations(path.read_text().split("\n"))
         for each in found:
+            if FOUND_BY_SEARCH.match(each.comment):
+                continue
             names = {each.name, each.name.strip("◌")}
             own = citations(each.text)
             if all(counts[name] <= own[name] for name in names) and not taken[module] & (names | {"*"}):
@@ -169,7 +191,7 @@ def limits():
         if LIMIT_HOMES.search(str(path)):
             continue
         for number, line in enumerate(path.read_text().split("\n"), 1):
-            found = LIMIT.search(line)
+            found = not POWERS.search(line) and LIMIT.search(TEXT.sub("", line))
             if found and not line.strip().startswith(("--", "//")) and not NAMES_LIMIT.search(line):
                 yield f"{place(path, number)}: {found.group()}"
 
@@ -231,7 +253,7 @@ def functions(path, lines):
             while not lines[end - 1].strip():
                 end -= 1
         else:
-            while end < len(lines) and lines[end] != indent + "}":
+            while end < len(lines) and lines[end] not in (indent + "}", indent + "{}"):
                 begin = end if lines[end] == indent + "{" else begin
                 end += 1
         yield match.group(2), number + 1, end - begin - 1

@@ -1,8 +1,8 @@
 -- The points of the lattice, and the determinants of its tetrahedra.
 use Rattle.std.proofs.Common.{◌≡◌, ℕ, ◌+◌, ◌*◌, ◌^◌, ◌<◌, ◌≤◌, ◌<ℤ◌, true, ℤ, pos, ◌+ℤ◌, ◌*ℤ◌, List, [], ◌∷◌, length, get_or, All, refl, ap, ap₂, sym, ◌∙◌, subst, arith}
 use Rattle.std.proofs.lemmas.List.Elements.{All-from_recursion, All-head, All-tail, All-weaker}
-use native.Mathlib.Nat.{pow-suc, pow-zero, mul-le-mul, mul-le-mul_left}
-use Rattle.int_algebra.proofs.Laws.{linear}
+use native.Mathlib.Nat.{mul-le-mul, mul-le-mul_left}
+use Rattle.int_algebra.proofs.Laws.{cubed, linear}
 use Rattle.int_algebra.proofs.Ring.{constant, variable, ◌⊕◌, ◌⊗◌, normal_form, ring}
 use Rattle.int_algebra.proofs.Corners.{Corner, det}
 use Rattle.grid.specs.declared.shapes.Point.{Point}
@@ -107,9 +107,6 @@ volume-same points v [] h = ap pos (omega arith)
 volume-same points v (t ∷ ts) h =
     ap₂ ◌+ℤ◌ (All-head (λ t. det_at points t ≡ pos v) t ts h) (volume-same points v ts (All-tail (λ t. det_at points t ≡ pos v) t ts h))
     ∙ ap pos (omega arith)
-
-pub cubed : (n : ℕ) → n ^ 3 ≡ n * n * n
-cubed n = rw (pow-suc n 2, pow-suc n 1, pow-suc n 0, pow-zero n) (omega arith)
 
 pub lattice-length : (n : ℕ) → length (lattice_tets n) ≡ 6 * n ^ 3
 lattice-length n = length-at_places 6 n (cube n) (λ i j k. refl) ∙ omega (arith, cubed n)

@@ -12,7 +12,8 @@ use Rattle.background.proofs.Gather.{number_is, length-at_places, All-at_places}
 use Rattle.background.proofs.FaceKinds.{Place, place, at, small, same_place}
 use Rattle.background.proofs.Places.{IsBelow, IsSmall, small-IsSmall, at-same, same_place-from}
 use Rattle.background.proofs.Spaced.{spaced}
-use Rattle.background.proofs.Volume.{cubed, lattice-length}
+use Rattle.int_algebra.proofs.Laws.{cubed}
+use Rattle.background.proofs.Volume.{lattice-length}
 
 pub lattice_points-length : (h n : ℕ) → length (lattice_points h n) ≡ (n + 1) * (n + 1) * (n + 1)
 lattice_points-length h n = length-at_places 1 (n + 1) (λ i j k. point (i * h) (j * h) (k * h) ∷ []) (λ i j k. refl) ∙ omega arith

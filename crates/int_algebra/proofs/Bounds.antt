@@ -1,5 +1,5 @@
--- Bounds of polynomials by computation: `within` bounds the absolute value of an expression from bounds of its variables, and `fits` proves from it that the value fits a signed type.
-use Rattle.std.proofs.Common.{ℕ, ◌*◌, ◌+◌, ◌^◌, ◌≤◌, ◌<◌, suc, zero, List, [], ◌∷◌, ℤ, pos, ◌+ℤ◌, ◌-ℤ◌, ◌*ℤ◌, neg_ℤ, ◌≤ℤ◌, arith, mul-le-mul, T, ltb, ltb→lt, SFits, to_z, le_trans}
+-- Bounds of polynomials by computation: `within` bounds the absolute value of an expression from bounds of its variables, and `fits_within` proves from it that the value fits a signed type.
+use Rattle.std.proofs.Common.{ℕ, ◌*◌, ◌+◌, ◌^◌, ◌≤◌, ◌<◌, suc, zero, List, [], ◌∷◌, ℤ, pos, ◌+ℤ◌, ◌-ℤ◌, ◌*ℤ◌, neg_ℤ, ◌≤ℤ◌, arith, mul-le-mul, SFits, to_z, le_trans}
 use Rattle.std.proofs.lemmas.Int.{ints, unsigned_abs-mul, fits_signed_from_abs}
 use lib.IntN.{nat_abs}
 use Rattle.std.proofs.Common.{of_z, to_z-of_z, subst, sym}
@@ -59,9 +59,6 @@ within ns xs h (minus a) = neg-IsWithin (within ns xs h a)
 pub fits_within : (w : Width) {n : ℕ} {z : ℤ} → IsWithin n z → n < 2 ^ hbits w → SFits w z
 fits_within w {z} h lt = fits_signed_from_abs w z (omega (arith, h.within))
 
-pub fits : (w : Width) (ns : List ℕ) (xs : List ℤ) (e : Expression) → AreWithin ns xs → T (ltb (bound_of ns e) (2 ^ hbits w)) → SFits w (value xs e)
-fits w ns xs e h t = fits_within w (within ns xs h e) (ltb→lt _ _ t)
-
 pub within_interval : (n : ℕ) (z : ℤ) → neg_ℤ (pos n) ≤ℤ z → z ≤ℤ pos n → IsWithin n z
 within_interval n z low high = record { within = omega (arith, ints) }
 
@@ -75,9 +72,6 @@ within_cast w n m le lt = record { within = omega (arith, ints) }
 -- a larger bound
 pub wider-IsWithin : {m : ℕ} (n : ℕ) {z : ℤ} → IsWithin m z → m ≤ n → IsWithin n z
 wider-IsWithin n h le = record { within = le_trans h.within le }
-
-pub interval_within : (n : ℕ) (z : ℤ) → IsWithin n z → (neg_ℤ (pos n) ≤ℤ z) × (z ≤ℤ pos n)
-interval_within n z h = (omega (arith, ints, h.within), omega (arith, ints, h.within))
 
 -- the bound of a value that was kept at a width
 pub kept-IsWithin : (w : Width) {n : ℕ} {z : ℤ} → IsWithin n z → n < 2 ^ hbits w → IsWithin n (to_z w (of_z w z))

@@ -3,7 +3,7 @@ use Rattle.std.proofs.Common.{◌≡◌, ℕ, ◌^◌, List, Bool, true, false, 
 use mir.Syntax.{Width}
 use mir.Val.{hbits}
 use Rattle.int_algebra.proofs.Ring as expression
-use Rattle.int_algebra.proofs.Ring.{Expression, value, normal_form, ring}
+use Rattle.int_algebra.proofs.Ring.{Expression, value}
 use Rattle.int_algebra.proofs.Polynomials.{value_at}
 use Rattle.int_algebra.proofs.Bounds.{bound_of, AreWithin, within, fits_within}
 
@@ -68,7 +68,3 @@ module _ (ns : List ℕ) (xs : List ℤ) (h : AreWithin ns xs) where
   fits_code w c t =
       let p = both (ltb (bound_of ns (plain c)) (2 ^ hbits w)) (is_safe ns c) t in
       subst (SFits w) (sym (kept-value c p.1)) (fits_within w (within ns xs h (plain c)) (ltb→lt _ _ p.0))
-
-  -- the code's value is that of any expression with its normal form
-  pub code_is : (c : Code) (e : Expression) → T (is_safe ns c) → normal_form (plain c) ≡ normal_form e → code_value xs c ≡ value xs e
-  code_is c e t same = kept-value c t ∙ ring xs (plain c) e same

@@ -3,7 +3,6 @@ use Rattle.std.proofs.Common.{◌≡◌, ℕ, ◌*◌, suc, zero, List, [], ◌�
 use borrow.Author.Differences.{true_is_lt, true_is_le, lt_out, le_out}
 use Rattle.std.proofs.Common.{true, ◌↔◌, sym}
 use lib.Signed.{lt_z, le_z, le_z_yes, clash_ℤ}
-use lib.IntN.{*ℤ-zero}
 use Rattle.std.proofs.lemmas.Int.{by_lt_z}
 use Rattle.int_algebra.proofs.Laws.{linear}
 use Rattle.int_algebra.proofs.Ring.{Expression, constant, variable, ◌⊕◌, ◌⊖◌, ◌⊗◌, value, normal_form, ring}
@@ -106,9 +105,6 @@ times_non_negative k a b p h =
 pub cancel-at_most : (k a b : ℤ) → pos 0 <ℤ k → (k *ℤ a) ≤ℤ (k *ℤ b) → a ≤ℤ b
 cancel-at_most k a b p h = by_lt_z b a (λ l. clash_ℤ (times_positive k b a p l) h) (λ l. l)
 
-pub cancel-below : (k a b : ℤ) → pos 0 <ℤ k → (k *ℤ a) <ℤ (k *ℤ b) → a <ℤ b
-cancel-below k a b p h = by_lt_z a b (λ l. l) (λ l. clash_ℤ h (times_non_negative k b a (omega (arith, linear)) l))
-
 pub cancel-same : (k a b : ℤ) → pos 0 <ℤ k → k *ℤ a ≡ k *ℤ b → a ≡ b
 cancel-same k a b p h =
     let low : (k *ℤ a) ≤ℤ (k *ℤ b) = omega (arith, linear) in
@@ -116,9 +112,6 @@ cancel-same k a b p h =
     let one_way = cancel-at_most k a b p low in
     let other_way = cancel-at_most k b a p high in
     omega (arith, linear)
-
-pub positive_factor : (k a : ℤ) → pos 0 <ℤ k → pos 0 <ℤ (k *ℤ a) → pos 0 <ℤ a
-positive_factor k a p h = cancel-below k (pos 0) a p (rw *ℤ-zero h)
 
 -- ---- what a test of the code says: `rw e (less_test _ _)`, where e gives the tested value
 pub less_test : (a b : ℤ) → (lt_z a b ≡ true) ↔ (a <ℤ b)

@@ -4,6 +4,7 @@ use Rattle.std.specs.List.{AllByRecursion as Each}
 use Rattle.std.proofs.lemmas.List.Elements.{All-from_recursion, recursion_from_All}
 use Rattle.grid.specs.declared.shapes.Face.{Face}
 use Rattle.grid.specs.Views.{triples_of}
+use Rattle.mesh_types.proofs.ForCallers.{Each-face}
 
 each-triple : (P : List ℕ → Type 0) (fs : List Face) (d : Face) → ((k : ℕ) → k < length fs → P (get_or fs k d).0) → Each P (triples_of fs)
 each-triple P [] d h = tt
@@ -20,9 +21,5 @@ triple-each P (f ∷ fs) d (suc k) h lt = triple-each P fs d k h.1 (omega arith)
 pub triple-at : (P : List ℕ → Type 0) (fs : List Face) (d : Face) (k : ℕ) → All P (triples_of fs) → k < length fs → P (get_or fs k d).0
 triple-at P fs d k h lt = triple-each P fs d k (recursion_from_All P (triples_of fs) h) lt
 
-each-face : (P : List ℕ → Type 0) (fs : List Face) → Each P (triples_of fs) → Each (λ (f : Face). P f.0) fs
-each-face P [] h = tt
-each-face P (f ∷ fs) h = (h.0, each-face P fs h.1)
-
 pub all-faces : (P : List ℕ → Type 0) (fs : List Face) → Each P (triples_of fs) → All (λ (f : Face). P f.0) fs
-all-faces P fs h = All-from_recursion (λ (f : Face). P f.0) fs (each-face P fs h)
+all-faces P fs h = All-from_recursion (λ (f : Face). P f.0) fs (Each-face P fs h)

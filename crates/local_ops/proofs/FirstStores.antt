@@ -13,6 +13,7 @@ pub positive-first : (r : Result StoreView Memory) (m : Mesh) → AllPositive m 
 positive-first (Ok s) m h e = subst AllPositive (sym e) h
 positive-first (Err x) m h e = tt
 
+-- for `search`: tracking faces moves no tetrahedron
 pub positive-same : (old new : Parts) → HasSameSlots old new → AllPositive (mesh_in old) → AllPositive (mesh_in new)
 positive-same old new same h =
     subst (λ (ss : List Slot). All (IsPositive new.points) (live_tets ss)) (sym same.slots) (subst (λ (ps : List Point). All (IsPositive ps) (live_tets old.slots)) (sym same.points) h)

@@ -1,5 +1,5 @@
 -- Verdicts from tests made in their order.
-use Rattle.std.proofs.Common.{◌≡◌, ◌⊎◌, ℕ, zero, suc, ◌<◌, sym, ◌∙◌, ap, subst, inl, inr, refl, arith}
+use Rattle.std.proofs.Common.{◌≡◌, ◌⊎◌, ℕ, suc, ◌<◌, sym, ◌∙◌, ap, subst, inl, inr, arith}
 use Rattle.std.proofs.lemmas.Bool.{cases_eq}
 use Rattle.grid.specs.Meshes.{Mesh}
 use Rattle.mesh_types.specs.declared.tries.Try.{Try}
@@ -7,29 +7,8 @@ use Rattle.mesh_types.specs.declared.tries.Why.{Why}
 use Rattle.mesh_types.specs.declared.tries.Why.TheVariants as why
 use Rattle.mesh_types.specs.declared.tries.Verdict.TheVariants.{Kept, Refused}
 use Rattle.mesh_types.specs.Verdicts.{Setting, Passes, place_in_order, IsVerdict}
+use Rattle.mesh_types.proofs.ForCallers.{why_at, at_place}
 use Rattle.local_ops.specs.Attempts.{PassesBelow}
-
--- the reason at a place in the order
-why_at : ℕ → Why
-why_at zero = why.Box
-why_at (suc zero) = why.Rim
-why_at (suc (suc zero)) = why.Tracked
-why_at (suc (suc (suc zero))) = why.Full
-why_at (suc (suc (suc (suc zero)))) = why.Inverted
-why_at (suc (suc (suc (suc (suc zero))))) = why.Doubled
-why_at (suc (suc (suc (suc (suc (suc zero)))))) = why.Worse
-why_at (suc (suc (suc (suc (suc (suc (suc n))))))) = why.Uncovered
-
-why-read : (w : Why) → why_at (place_in_order w) ≡ w
-unfolding why_at
-why-read why.Box = refl
-why-read why.Rim = refl
-why-read why.Tracked = refl
-why-read why.Full = refl
-why-read why.Inverted = refl
-why-read why.Doubled = refl
-why-read why.Worse = refl
-why-read why.Uncovered = refl
 
 below_eight : (w : Why) → place_in_order w < 8
 below_eight why.Box = omega arith
@@ -42,6 +21,7 @@ below_eight why.Worse = omega arith
 below_eight why.Uncovered = omega arith
 
 module _ (s : Setting) (m : Mesh) (t : Try) where
+  -- for `search`: before the first test
   pub passes_none : PassesBelow s m t 0
   passes_none = record { each = λ v h. absurd (omega arith) }
 
@@ -50,7 +30,7 @@ module _ (s : Setting) (m : Mesh) (t : Try) where
   passes_more w h p = record {
     each = λ v l. elim (order (place_in_order v) (place_in_order w) l) [
       | inl e ↦ h.each v e
-      | inr e ↦ subst (Passes s m t) (sym (why-read w) ∙ (ap why_at (sym e) ∙ why-read v)) p
+      | inr e ↦ subst (Passes s m t) (sym (at_place w) ∙ (ap why_at (sym e) ∙ at_place v)) p
     ];
   }
     where

@@ -2,7 +2,6 @@ mod Attempted
 mod TrackedCounts
 mod Members
 mod Listed
-mod Corners
 mod FaceLists
 mod FaceCounts
 mod InOrder
@@ -12,7 +11,6 @@ mod Ends
 mod SurfaceTests
 mod RisingLists
 mod Neighbours
-mod SumsOfPoints
 mod Means
 mod NewPoints
 mod Changed

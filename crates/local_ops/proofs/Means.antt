@@ -1,5 +1,5 @@
 -- Means of numbers up to a limit.
-use Rattle.std.proofs.Common.{◌≡◌, ℕ, ◌+◌, ◌*◌, ◌/◌, ◌^◌, ◌<◌, ◌≤◌, ℤ, pos, negsuc, nat_abs, SFits, to_z, of_z, to_z-of_z, refl, sym, ◌∙◌, subst, ap, arith, rules}
+use Rattle.std.proofs.Common.{◌≡◌, ℕ, ◌+◌, ◌*◌, ◌/◌, ◌^◌, ◌<◌, ◌≤◌, ℤ, pos, nat_abs, SFits, to_z, of_z, to_z-of_z, sym, ◌∙◌, subst, ap, arith, rules}
 use mir.Syntax.{w32, w64}
 use Rattle.std.proofs.Math.Nat.{div-lt_iff_lt-mul}
 use Rattle.std.proofs.lemmas.Int.{ints}
@@ -7,20 +7,9 @@ use Rattle.grid.specs.declared.shapes.Point.{Point}
 use Rattle.grid.specs.Boxes.{IsUpTo, IsInBox}
 use Rattle.grid.specs.Limits.{largest_side, most_points}
 use Rattle.mesh_types.specs.Results.{shifted_to}
+use Rattle.mesh_types.proofs.ForCallers.{nat_of, IsUpTo-pos, small-fits}
 use Rattle.mesh_store.specs.Sound.{IsBox}
 use Rattle.local_ops.specs.Smoothing.{mean_of}
-
-record IsNat (l : ℕ) (z : ℤ) : Type 0 where
-  pub n : ℕ
-  pub is : z ≡ pos n
-  pub most : n ≤ l
-
-nat_of : (l : ℕ) (z : ℤ) → IsUpTo l z → IsNat l z
-nat_of l (pos n) h = record { n = n; is = refl; most = let g = h.high in omega (arith, ints, g) }
-nat_of l (negsuc n) h = let g = h.low in absurd (omega (arith, ints, g))
-
-up_to : (l n : ℕ) → n ≤ l → IsUpTo l (pos n)
-up_to l n h = record { low = omega (arith, ints); high = omega (arith, ints, h) }
 
 rounded : (s n l : ℕ) → 0 < n → s ≤ l * n → (2 * s + n) / (2 * n) ≤ l
 rounded s n l some h = less (div-lt_iff_lt-mul {k = 2 * n} {x = 2 * s + n} {y = l + 1} (omega arith)).1 (below (l * n) h (product l n))
@@ -37,15 +26,9 @@ rounded s n l some h = less (div-lt_iff_lt-mul {k = 2 * n} {x = 2 * s + n} {y = 
 pub mean-in : (l n : ℕ) (sum : ℤ) → 0 < n → IsUpTo (l * n) sum → IsUpTo l (mean_of sum n)
 mean-in l n sum some h =
     let s = nat_of (l * n) sum h in
-    subst (λ z. IsUpTo l (mean_of z n)) (sym s.is) (up_to l ((2 * s.n + n) / (2 * n)) (rounded s.n n l some s.most))
+    subst (λ z. IsUpTo l (mean_of z n)) (sym s.is) (IsUpTo-pos l ((2 * s.n + n) / (2 * n)) (rounded s.n n l some s.most))
 
 -- ---- signed readings
-pub small-fits : (z : ℤ) → IsUpTo largest_side z → SFits w32 z
-small-fits z h = let n = nat_of largest_side z h in subst (SFits w32) (sym n.is) (few n.n n.most)
-  where
-    few : (n : ℕ) → n ≤ largest_side → SFits w32 (pos n)
-    few n l = search rules
-
 pub sum-fits : (z : ℤ) (n : ℕ) → n ≤ most_points → IsUpTo (largest_side * n) z → SFits w64 z
 sum-fits z n l h = let m = nat_of (largest_side * n) z h in subst (SFits w64) (sym m.is) (few m.n (below m.n n m.most l))
   where

@@ -52,7 +52,7 @@ module _ (points : List Point) (u : ℕ) (p : Point) where
       ∙ (same_four energy (λ c. point_at (points ++ p ∷ []) (put u (length points) c)) (moved_at points u p) (length points) x t point-new
       ∙ sym (ap (energy_with points u p) t.is))
 
-  -- the number of another point
+  -- for `search`: the number of another point
   pub det-old : (v : ℕ) (x : List ℕ) → p ≡ point_at points v → IsTet (length points) x → det_at points (replaced u v x) ≡ det_with points u p x
   det-old v x h is =
       let t = cornered_of (length points) x is in
@@ -60,6 +60,7 @@ module _ (points : List Point) (u : ℕ) (p : Point) where
       ∙ (same_four det (λ c. point_at points (put u v c)) (moved_at points u p) (length points) x t (λ c l. point-old v c h)
       ∙ sym (ap (det_with points u p) t.is))
 
+  -- for `search`
   pub energy-old : (v : ℕ) (x : List ℕ) → p ≡ point_at points v → IsTet (length points) x → energy_at points (replaced u v x) ≡ energy_with points u p x
   energy-old v x h is =
       let t = cornered_of (length points) x is in
@@ -76,6 +77,7 @@ module _ (points : List Point) (u : ℕ) (p : Point) where
   det_with-four (a ∷ b ∷ c ∷ d ∷ []) e = refl
   det_with-four (a ∷ b ∷ c ∷ d ∷ f ∷ x) e = cc e
 
+  -- for `search`
   pub energy_with-four : (x : List ℕ) → length x ≡ 4 → energy_with points u p x ≡ energy (moved_at points u p (get_or x 0 0)) (moved_at points u p (get_or x 1 0)) (moved_at points u p (get_or x 2 0)) (moved_at points u p (get_or x 3 0))
   energy_with-four [] e = cc e
   energy_with-four (a ∷ []) e = cc e

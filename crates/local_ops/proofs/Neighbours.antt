@@ -16,10 +16,11 @@ use Rattle.mesh_types.proofs.ForCallers.{Among, among-all, Cornered, second, fou
 use Rattle.tet_slots.specs.declared.slot.Slot.{Slot}
 use Rattle.tet_slots.specs.Searches.{has_corner, numbers_of}
 use Rattle.mesh_store.specs.Parts.{live_tets}
+use Rattle.tet_slots.proofs.ForCallers.{has-append, has-filter}
 use Rattle.mesh_store.proofs.ForCallers.{tets-numbers}
 use Rattle.local_ops.specs.Measures.{corners_at}
 use Rattle.local_ops.specs.Smoothing.{corners_but}
-use Rattle.local_ops.proofs.RisingLists.{has-append, has-filter, has-IsPermutation, has-dedup, rises-dedup, rises-chosen, has-chosen}
+use Rattle.local_ops.proofs.RisingLists.{has-IsPermutation, has-dedup, rises-dedup, rises-chosen, has-chosen}
 use Rattle.local_ops.proofs.NewTets.{some-counted}
 
 -- w is another point of an edge at u

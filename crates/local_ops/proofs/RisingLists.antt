@@ -1,5 +1,5 @@
 -- Lists of numbers in rising order, each once.
-use Rattle.std.proofs.Common.{◌≡◌, ℕ, zero, suc, ◌+◌, ◌<◌, ◌≤◌, Bool, true, false, ◌||◌, ◌&&◌, List, [], ◌∷◌, ◌++◌, eqb, refl, sym, ◌∙◌, ap, inl, inr, arith}
+use Rattle.std.proofs.Common.{◌≡◌, ℕ, zero, suc, ◌+◌, ◌<◌, ◌≤◌, Bool, true, false, ◌||◌, ◌&&◌, List, [], ◌∷◌, eqb, refl, sym, ◌∙◌, ap, inl, inr, arith}
 use Rattle.std.specs.Prelude.{nat_eq}
 use Rattle.std.specs.List.{AllByRecursion as Each, AllPairs, dedup, dedup_from, filter, list_any, range_with_len}
 use Rattle.std.specs.List.Sorted.{IsPermutation, IsSorted}
@@ -11,34 +11,9 @@ use Rattle.std.proofs.lemmas.Map.Keys.{IsStrictlyIncreasing-dedup}
 use Rattle.std.proofs.lemmas.List.Sorted.{list_any-IsPermutation}
 use Rattle.grid.specs.Simplices.{has, Rises}
 use Rattle.mesh_types.proofs.ForCallers.{Each-filter}
+use Rattle.tet_slots.proofs.ForCallers.{has-filter}
 
 -- ---- members
-pub has-append : (x y : List ℕ) (c : ℕ) → has (x ++ y) c ≡ (has x c || has y c)
-has-append [] y c = refl
-has-append (a ∷ x) y c = ap (λ (b : Bool). nat_eq a c || b) (has-append x y c) ∙ assoc (nat_eq a c) (has x c) (has y c)
-  where
-    assoc : (p q r : Bool) → (p || (q || r)) ≡ ((p || q) || r)
-    assoc true q r = refl
-    assoc false q r = refl
-
-pub has-filter : (p : ℕ → Bool) (x : List ℕ) (c : ℕ) → has (filter p x) c ≡ (has x c && p c)
-has-filter p [] c = refl
-has-filter p (a ∷ x) c =
-    let rest = has-filter p x c in
-    elim (cases_Bool (p a)) [
-      | inl e ↦ rw e (ap (λ (b : Bool). nat_eq a c || b) rest ∙ kept (nat_eq a c) (has x c) (p c) (λ h. sym (ap p (eqb-true a c h)) ∙ e))
-      | inr e ↦ rw e (rest ∙ dropped (nat_eq a c) (has x c) (p c) (λ h. sym (ap p (eqb-true a c h)) ∙ e))
-    ]
-  where
-    kept : (q h p : Bool) → (q ≡ true → p ≡ true) → (q || (h && p)) ≡ ((q || h) && p)
-    kept true h p f = sym (f refl)
-    kept false h p f = refl
-
-    dropped : (q h p : Bool) → (q ≡ true → p ≡ false) → (h && p) ≡ ((q || h) && p)
-    dropped true true p f = refl
-    dropped true false p f = sym (f refl)
-    dropped false h p f = refl
-
 has-any : (x : List ℕ) (c : ℕ) → has x c ≡ list_any (λ a. nat_eq a c) x
 has-any [] c = refl
 has-any (a ∷ x) c = ap (λ (b : Bool). nat_eq a c || b) (has-any x c)

@@ -1,9 +1,10 @@
 -- For callers: corner lists and triples, sums over faces, what refining and a change keep, candidates, journals,
 -- and the laws.
 pub use Rattle.mesh_types.proofs.Sums.{bit, total, total-swap, count_by-total}
-pub use Rattle.mesh_types.proofs.Each.{Each-weaker, Each-both, Each-append, Each-flat_map, Each-of_flat_map}
+pub use Rattle.mesh_types.proofs.Each.{Each-weaker, Each-both, Each-append, Each-flat_map, Each-of_flat_map, Each-face}
 pub use Rattle.mesh_types.proofs.Replaced.{put_cases, same_bools, has_first, has_cases, has_none, has_none_from, has-replaced_new, replaced-back}
 pub use Rattle.mesh_types.proofs.Same.{Turn, still, once, twice, turn_of, rotation_still, rotations, has-reversed, same_corners_from}
+pub use Rattle.mesh_types.proofs.Corners.{det-four, corner-in}
 pub use Rattle.mesh_types.proofs.Rising.{rises_same, rising-Rises}
 pub use Rattle.mesh_types.proofs.Pieces.{sub-touched, sub-untouched}
 pub use Rattle.mesh_types.proofs.Between.{Cornered}
@@ -39,6 +40,6 @@ pub use Rattle.mesh_types.proofs.SumsInTurn.{sum-more, IsUpTo-sum, small-fits}
 pub use Rattle.mesh_types.proofs.Gone.{gone_law}
 pub use Rattle.mesh_types.proofs.StaysSound.{stays_sound_law}
 pub use Rattle.mesh_types.proofs.TryOrder.{before_not, before_trans, before_or, before_same, before_kind, before_point}
-pub use Rattle.mesh_types.proofs.OneJournal.{candidate-at, one-journal}
+pub use Rattle.mesh_types.proofs.OneJournal.{last-push, candidate-at, one-journal}
 pub use Rattle.mesh_types.proofs.WeightedMeans.{hull_law}
 pub use Rattle.mesh_types.proofs.OneOutcome.{turns_law, one-each}

@@ -3,6 +3,7 @@ mod Sums
 mod Each
 mod Replaced
 mod Same
+mod Corners
 mod Rising
 -- the split of one edge
 mod Pieces

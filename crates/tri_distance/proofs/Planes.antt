@@ -8,6 +8,7 @@ use Rattle.int_algebra.proofs.Corners.{less as less_, dot as dot_, cross as cros
 use Rattle.grid.specs.Vectors.{Vector, dot, cross, minus, sum_of_two, sum_of_three, scaled}
 use Rattle.tri_distance.specs.Parts.{NearTriangle, NearPlane}
 use Rattle.grid.proofs.ForCallers.{product-Positive, coordinates_then, scaled_, plus_, length_, squares_, x_, y_, z_, m_, at_, zero_}
+use Rattle.vectors.proofs.VectorLemmas.{length-NonNegative}
 use Rattle.tri_distance.proofs.Segments.{square-Positive}
 use Rattle.tri_distance.proofs.Moves.{CanMove, NearEdge, first_lower, second_lower, third_lower}
 
@@ -141,10 +142,6 @@ plane_near s d r n q p hq h =
     cancel-at_most (s *ℤ s) (d *ℤ d) (r *ℤ n) (square-Positive s p)
     (at_most (s ∷ d ∷ r ∷ n ∷ q ∷ []) ((zero_ ≼ at_ 4) ∷ (at_ 0 ⊗ at_ 1 ⊗ (at_ 0 ⊗ at_ 1) ⊕ at_ 4 ≼ at_ 3 ⊗ (at_ 2 ⊗ (at_ 0 ⊗ at_ 0))) ∷ [])
     (at_ 0 ⊗ at_ 0 ⊗ (at_ 1 ⊗ at_ 1)) (at_ 0 ⊗ at_ 0 ⊗ (at_ 2 ⊗ at_ 3)) (given 0 ⊞ given 1) refl (hq, (h, tt)))
-
-length-NonNegative : (m : Vector) → pos 0 ≤ℤ dot m m
-unfolding dot
-length-NonNegative m = at_most (coordinates_then (m ∷ []) []) [] zero_ (length_ x_) (squares_ x_) refl tt
 
 -- what a near weighted_gap point says of its plane
 weighted_near : (g m : Vector) (s d r : ℤ) → dot m g ≡ s *ℤ d → dot g g ≤ℤ (r *ℤ (s *ℤ s))

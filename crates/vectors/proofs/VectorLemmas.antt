@@ -1,5 +1,5 @@
--- Bounds of sums and products of vectors.
-use Rattle.std.proofs.Common.{ℕ, ◌+◌, ◌*◌, ◌≤◌, [], ◌∷◌, ℤ, pos, ◌-ℤ◌, ◌*ℤ◌, arith, refl}
+-- Bounds of sums and products of vectors, and of lengths.
+use Rattle.std.proofs.Common.{ℕ, ◌+◌, ◌*◌, ◌≤◌, [], ◌∷◌, ℤ, pos, ◌-ℤ◌, ◌*ℤ◌, ◌≤ℤ◌, arith, refl}
 use Rattle.std.proofs.lemmas.Int.{ints}
 use Rattle.int_algebra.specs.Within.{IsWithin}
 use Rattle.int_algebra.proofs.Ring.{constant, variable, ◌⊗◌}
@@ -8,7 +8,7 @@ use Rattle.int_algebra.proofs.Bounds.{AreWithin, sum-IsWithin, product-IsWithin,
 use Rattle.grid.specs.declared.shapes.Point.{Point}
 use Rattle.grid.specs.Boxes.{IsUpTo, IsInBox}
 use Rattle.grid.specs.Vectors.{Vector, dot, cross}
-use Rattle.grid.proofs.ForCallers.{coordinates_then}
+use Rattle.grid.proofs.ForCallers.{coordinates_then, length_, squares_, x_, zero_}
 use Rattle.vectors.specs.Bounded.{IsVectorWithin, gap_of}
 
 -- the components of two vectors, one after the other
@@ -35,6 +35,10 @@ cross-IsVectorWithin l h i le = record {
   y_in = wider-IsWithin l (difference-IsWithin (product-IsWithin h.z_in i.x_in) (product-IsWithin h.x_in i.z_in)) le;
   z_in = wider-IsWithin l (difference-IsWithin (product-IsWithin h.x_in i.y_in) (product-IsWithin h.y_in i.x_in)) le;
 }
+
+pub length-NonNegative : (m : Vector) → pos 0 ≤ℤ dot m m
+unfolding dot
+length-NonNegative m = at_most (coordinates_then (m ∷ []) []) [] zero_ (length_ x_) (squares_ x_) refl tt
 
 -- numbers from 0 to n are at most n apart
 apart-IsWithin : (n : ℕ) (a b : ℤ) → IsUpTo n a → IsUpTo n b → IsWithin n (a -ℤ b)

@@ -8,7 +8,7 @@ use Rattle.mesh_types.specs.Lattice.{lattice, lattice_points}
 use Rattle.mesh_types.specs.Views.{corners_of, triples_of}
 use Rattle.background.proofs.LimitLemmas.{cells_most, step_most}
 use Rattle.background.proofs.Tiling.{lattice-IsWellFormed, lattice-made, lattice-IsWithinLimits, lattice-Tiles, lattice-IsInBox}
-use Rattle.background.proofs.Volume.{cubed}
+use Rattle.int_algebra.proofs.Laws.{cubed}
 use Rattle.background.proofs.subdivision.lattice.Goals as goal
 
 pub points-requires-clause-step_in : goal.points-requires-clause-step_in

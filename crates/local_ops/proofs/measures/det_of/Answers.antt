@@ -1,7 +1,7 @@
 use Rattle.std.proofs.Common.{◌∙◌, sym, arith, rules, SFits, to_z-of_z}
 use mir.Syntax.{w128}
 use Rattle.grid.specs.Determinants.{det}
-use Rattle.local_ops.proofs.Corners.{det-four, corner-in}
+use Rattle.mesh_types.proofs.ForCallers.{det-four, corner-in}
 use Rattle.local_ops.proofs.measures.det_of.Goals as goal
 
 pub det-requires-clause-a_in : goal.det-requires-clause-a_in

@@ -4,7 +4,7 @@ use Rattle.grid.specs.Boxes.{IsInBox}
 use Rattle.grid.specs.Determinants.{point_at, origin}
 use Rattle.grid.specs.Limits.{largest_side}
 use Rattle.local_ops.specs.Smoothing.{IsSumUpTo}
-use Rattle.local_ops.proofs.SumsOfPoints.{sum-more, up_to-more}
+use Rattle.mesh_types.proofs.ForCallers.{sum-more, IsUpTo-sum}
 use Rattle.local_ops.proofs.smoothing.added.Goals as goal
 
 pub loop-w-preserved : goal.loop-w-preserved
@@ -15,9 +15,9 @@ loop-w-preserved c =
     let more : largest_side * i + largest_side ≡ largest_side * (i + 1) = omega arith in
     let p : IsInBox largest_side c.point.result = subst (IsInBox largest_side) (sym c.point.ensures) (c.requires.in_box w origin (c.requires.there i 0 c.loop-w-test.true)) in
     let within : IsSumUpTo (largest_side * i + largest_side) c.plus-sum.result = record {
-      x_in = up_to-more (largest_side * i) largest_side _ _ _ c.loop-w.invariant.within.x_in p.x_in c.plus-sum.ensures.x;
-      y_in = up_to-more (largest_side * i) largest_side _ _ _ c.loop-w.invariant.within.y_in p.y_in c.plus-sum.ensures.y;
-      z_in = up_to-more (largest_side * i) largest_side _ _ _ c.loop-w.invariant.within.z_in p.z_in c.plus-sum.ensures.z;
+      x_in = IsUpTo-sum (largest_side * i) largest_side _ _ _ c.loop-w.invariant.within.x_in p.x_in c.plus-sum.ensures.x;
+      y_in = IsUpTo-sum (largest_side * i) largest_side _ _ _ c.loop-w.invariant.within.y_in p.y_in c.plus-sum.ensures.y;
+      z_in = IsUpTo-sum (largest_side * i) largest_side _ _ _ c.loop-w.invariant.within.z_in p.z_in c.plus-sum.ensures.z;
     } in
     record {
       x_is = sum-more (λ w. (point_at points w).x) c.args.around.now i _ _ _ c.loop-w-test.true c.loop-w.invariant.x_is (c.plus-sum.ensures.x ∙ ap (λ (p : Point). c.loop-w.sum.x +ℤ p.x) c.point.ensures);

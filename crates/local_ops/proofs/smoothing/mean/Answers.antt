@@ -5,7 +5,8 @@ use Rattle.std.proofs.Math.Facts.{to_z_pos}
 use Rattle.grid.specs.Boxes.{IsUpTo}
 use Rattle.grid.specs.Limits.{largest_side}
 use Rattle.local_ops.specs.Smoothing.{mean_of}
-use Rattle.local_ops.proofs.Means.{mean-in, small-fits}
+use Rattle.mesh_types.proofs.ForCallers.{small-fits}
+use Rattle.local_ops.proofs.Means.{mean-in}
 use Rattle.local_ops.proofs.smoothing.mean.Goals as goal
 
 pub returns-clause-value : goal.returns-clause-value
