@@ -1,12 +1,11 @@
 -- Marks of the tetrahedra reached, and their numbers in order.
-use Rattle.std.proofs.Common.{◌≡◌, ℕ, zero, suc, ◌+◌, ◌<◌, ◌⊎◌, Bool, true, false, not, cond, nat_eq, List, [], ◌∷◌, ◌++◌, length, replicate, set, slice_index_or, count_by, refl, sym, ap, ◌∙◌, subst, inl, inr, arith}
+use Rattle.std.proofs.Common.{◌≡◌, ℕ, ◌+◌, ◌<◌, ◌⊎◌, Bool, true, false, not, cond, nat_eq, List, [], ◌∷◌, ◌++◌, length, replicate, set, slice_index_or, count_by, sym, ap, ◌∙◌, subst, inl, inr, arith}
 use Rattle.std.proofs.Math.ListN.{get_or-append, get_or-eq_default, length-replicate}
 use Rattle.std.proofs.Math.Seq.{get_or-append_seam}
 use Rattle.std.proofs.lemmas.Bool.{cases_Bool, cases_lt, eqb-true, eqb-false, false≢true}
 use Rattle.std.proofs.lemmas.List.{get_or-replicate, get_or-set_same, get_or-set_other, length-set, length_push}
 use Rattle.std.proofs.lemmas.List.Sums.{sum_by-set}
-use Rattle.grid.proofs.ForCallers.{count_by-cons_yes}
-use Rattle.flood.specs.Floods.{AreReachable, Fills, IsFilled, IsListed, IsLoose, IsOn, IsReachable, starts, goes_on, Reaches, is_marked}
+use Rattle.flood.specs.Floods.{AreReachable, FillsFacets, IsFilled, IsListed, IsLoose, IsOn, IsReachable, starts, goes_on, Reaches, State, is_marked}
 
 -- ---- one more mark
 pub marked-set_same : (marks : List Bool) (t : ℕ) → t < length marks → is_marked (set marks t true) t ≡ true
@@ -54,23 +53,12 @@ IsListed-more marks order t so_far there e =
     }
 
 -- ---- more and more marks
-pub Reaches-none : (MayReach : ℕ → Type 0) (marks : List Bool) (order : List ℕ) → Reaches MayReach marks order marks order
-Reaches-none MayReach marks order = record { one_each = refl; kept = λ i m. m; new_ones = λ i m. inl m; longer = omega arith; front = λ k below. refl }
-
-pub Reaches-one : (marks : List Bool) (order : List ℕ) (t : ℕ) → t < length marks → Reaches (λ i. i ≡ t) marks order (set marks t true) (order ++ t ∷ [])
-Reaches-one marks order t there = record {
-  one_each = length-set marks t true;
-  kept = λ i m. marked-kept marks t i there m;
-  new_ones = λ i m. marked-new marks t i m;
-  longer = omega (arith, length_push order t);
-  front = λ k below. get_or-append order (t ∷ []) 0 k below;
-}
-
-pub Reaches-then : (A B C : ℕ → Type 0) (m : List Bool) (o : List ℕ) (n : List Bool) (p : List ℕ) (q : List Bool) (r : List ℕ) → Reaches A m o n p → Reaches B n p q r → ((i : ℕ) → A i → C i) → ((i : ℕ) → B i → C i) → Reaches C m o q r
-Reaches-then A B C m o n p q r s t from_a from_b =
+pub Reaches-then : (A B C : ℕ → Type 0) (a b c : State) → Reaches A a b → Reaches B b c → ((i : ℕ) → A i → C i) → ((i : ℕ) → B i → C i) → Reaches C a c
+Reaches-then A B C a b c s t from_a from_b =
     let longer_s = s.longer in
     let longer_t = t.longer in
     record {
+      same_facets = t.same_facets ∙ s.same_facets;
       one_each = t.one_each ∙ s.one_each;
       kept = λ i k. t.kept i (s.kept i k);
       new_ones = λ i k. elim (t.new_ones i k) [
@@ -82,47 +70,19 @@ Reaches-then A B C m o n p q r s t from_a from_b =
     }
 
 -- ---- fewer and fewer facets that wait
-pub Fills-none : (facet_of : List ℕ) (waiting marks : List Bool) → Fills facet_of waiting waiting marks
-Fills-none facet_of waiting marks = record { one_each = refl; fewer = λ c w. w; filled = λ c w e. absurd (false≢true (sym e ∙ w)) }
-
-pub Fills-then : (facet_of : List ℕ) (u v w m n : List Bool) → Fills facet_of u v m → ((i : ℕ) → is_marked m i ≡ true → is_marked n i ≡ true) → Fills facet_of v w n → Fills facet_of u w n
-Fills-then facet_of u v w m n s kept t = record {
+pub FillsFacets-then : (A B : ℕ → Type 0) (a b c : State) → Reaches A a b → Reaches B b c → FillsFacets a b → FillsFacets b c → FillsFacets a c
+FillsFacets-then A B a b c r q s t = record {
   one_each = t.one_each ∙ s.one_each;
-  fewer = λ c k. s.fewer c (t.fewer c k);
-  filled = λ c k e. elim (cases_Bool (slice_index_or v c false)) [
-    | inl waits ↦ t.filled c waits e
-    | inr done ↦ λ i on. kept i (s.filled c k done i on)
+  fewer = λ d k. s.fewer d (t.fewer d k);
+  filled = λ d k e. elim (cases_Bool (slice_index_or b.waiting d false)) [
+    | inl waits ↦ subst (λ f. IsFilled f c.marks d) r.same_facets (t.filled d waits e)
+    | inr done ↦ λ i on. q.kept i (s.filled d k done i on)
   ];
 }
 
-pub Reaches-weaker : (A B : ℕ → Type 0) (m : List Bool) (o : List ℕ) (n : List Bool) (p : List ℕ) → Reaches A m o n p → ((i : ℕ) → A i → B i) → Reaches B m o n p
-Reaches-weaker A B m o n p r from = record {
-  one_each = r.one_each;
-  kept = r.kept;
-  new_ones = λ i k. elim (r.new_ones i k) [ inl x ↦ inl x | inr x ↦ inr (from i x) ];
-  longer = r.longer;
-  front = r.front;
-}
-
--- a facet that is filled no longer waits
-pub Fills-one : (facet_of : List ℕ) (waiting marks : List Bool) (c : ℕ) → c < length waiting → IsFilled facet_of marks c → Fills facet_of waiting (set waiting c false) marks
-Fills-one facet_of waiting marks c there is_filled =
-    let here : slice_index_or (set waiting c false) c false ≡ false = get_or-set_same waiting c false false there in
-    record {
-      one_each = length-set waiting c false;
-      fewer = λ d k. elim (cases_Bool (nat_eq d c)) [
-        | inl e ↦ absurd (false≢true (sym here ∙ ap (λ x. slice_index_or (set waiting c false) x false) (sym (eqb-true d c e)) ∙ k))
-        | inr e ↦ sym (get_or-set_other waiting c d false false (eqb-false d c e)) ∙ k
-      ];
-      filled = λ d k done. elim (cases_Bool (nat_eq d c)) [
-        | inl e ↦ subst (IsFilled facet_of marks) (sym (eqb-true d c e)) is_filled
-        | inr e ↦ absurd (false≢true (sym done ∙ get_or-set_other waiting c d false false (eqb-false d c e) ∙ k))
-      ];
-    }
-
 -- what does not wait does not wait later on
-pub Fills-still : (facet_of : List ℕ) (v w m : List Bool) (c : ℕ) → Fills facet_of v w m → slice_index_or v c false ≡ false → slice_index_or w c false ≡ false
-Fills-still facet_of v w m c s e = elim (cases_Bool (slice_index_or w c false)) [
+pub FillsFacets-still : (a b : State) (c : ℕ) → FillsFacets a b → slice_index_or a.waiting c false ≡ false → slice_index_or b.waiting c false ≡ false
+FillsFacets-still a b c s e = elim (cases_Bool (slice_index_or b.waiting c false)) [
   | inl k ↦ absurd (false≢true (sym e ∙ s.fewer c k))
   | inr k ↦ k
 ]
@@ -134,40 +94,28 @@ none-marked n i = elim (cases_lt i n) [
   | inr k ↦ get_or-eq_default (replicate n false) false (omega (arith, length-replicate n false))
 ]
 
-count-none : (n : ℕ) → count_by not (replicate n false) ≡ n
-count-none zero = refl
-count-none (suc n) = count_by-cons_yes not false (replicate n false) refl ∙ ap (λ m. 1 + m) (count-none n) ∙ omega arith
-
-pub IsListed-none : (n : ℕ) → IsListed (replicate n false) []
-IsListed-none n = record {
-  in_range = λ k none. absurd (omega arith);
-  marked = λ k none. absurd (omega arith);
-  listed = λ i m. absurd (false≢true (sym (none-marked n i) ∙ m));
-  each_once = omega (arith, count-none n, length-replicate n false);
-}
-
 -- ---- at the end
 IsReachable-from : (facet_of : List ℕ) (is_open : List Bool) (A B : ℕ → Type 0) → ((i : ℕ) → A i → B i) → (i : ℕ) → IsReachable facet_of is_open A i → IsReachable facet_of is_open B i
 IsReachable-from facet_of is_open A B from i (starts k s) = starts k (from k s)
 IsReachable-from facet_of is_open A B from j (goes_on i k c r beside on opened) = goes_on i k c (IsReachable-from facet_of is_open A B from i r) beside on opened
 
 -- each tetrahedron that can be reached is marked once no listed one has a facet that waits
-reached-complete : (facet_of : List ℕ) (is_open waiting first marks : List Bool) (order : List ℕ) → IsListed marks order → ((i : ℕ) → is_marked first i ≡ true → is_marked marks i ≡ true) → Fills facet_of is_open waiting marks → ((k : ℕ) → k < length order → (c : ℕ) → IsOn facet_of c (slice_index_or order k 0) → slice_index_or waiting c false ≡ false) → (i : ℕ) → IsReachable facet_of is_open (λ j. is_marked first j ≡ true) i → is_marked marks i ≡ true
-reached-complete facet_of is_open waiting first marks order so_far kept fills passed i (starts k s) = kept k s
-reached-complete facet_of is_open waiting first marks order so_far kept fills passed j (goes_on i k c r beside on opened) =
-    let l = so_far.listed i (reached-complete facet_of is_open waiting first marks order so_far kept fills passed i r) in
-    fills.filled c opened (passed l.0 l.1 c (subst (IsOn facet_of c) (sym l.2) beside)) k on
+reached-complete : (old new : State) → IsListed new.marks new.order → ((i : ℕ) → is_marked old.marks i ≡ true → is_marked new.marks i ≡ true) → FillsFacets old new → ((k : ℕ) → k < length new.order → (c : ℕ) → IsOn old.facet_of c (slice_index_or new.order k 0) → slice_index_or new.waiting c false ≡ false) → (i : ℕ) → IsReachable old.facet_of old.waiting (λ j. is_marked old.marks j ≡ true) i → is_marked new.marks i ≡ true
+reached-complete old new so_far kept fills passed i (starts k s) = kept k s
+reached-complete old new so_far kept fills passed j (goes_on i k c r beside on opened) =
+    let l = so_far.listed i (reached-complete old new so_far kept fills passed i r) in
+    fills.filled c opened (passed l.0 l.1 c (subst (IsOn old.facet_of c) (sym l.2) beside)) k on
 
-pub AreReachable-ends : (facet_of : List ℕ) (is_open waiting first : List Bool) (first_order : List ℕ) (marks : List Bool) (order : List ℕ) → IsListed marks order → Reaches (IsReachable facet_of is_open (λ j. is_marked first j ≡ true)) first first_order marks order → Fills facet_of is_open waiting marks → ((k : ℕ) → k < length order → (c : ℕ) → IsOn facet_of c (slice_index_or order k 0) → slice_index_or waiting c false ≡ false) → AreReachable facet_of is_open (λ j. is_marked first j ≡ true) marks
-AreReachable-ends facet_of is_open waiting first first_order marks order so_far reaches fills passed = record {
+pub AreReachable-ends : (old new : State) → IsListed new.marks new.order → Reaches (IsReachable old.facet_of old.waiting (λ j. is_marked old.marks j ≡ true)) old new → FillsFacets old new → ((k : ℕ) → k < length new.order → (c : ℕ) → IsOn old.facet_of c (slice_index_or new.order k 0) → slice_index_or new.waiting c false ≡ false) → AreReachable old.facet_of old.waiting (λ j. is_marked old.marks j ≡ true) new.marks
+AreReachable-ends old new so_far reaches fills passed = record {
   sound = λ i m. elim (reaches.new_ones i m) [ inl s ↦ starts i s | inr r ↦ r ];
-  complete = reached-complete facet_of is_open waiting first marks order so_far reaches.kept fills passed;
+  complete = reached-complete old new so_far reaches.kept fills passed;
 }
 
 -- from those with loose faces on
-pub AreReachable-loose : (facet_of : List ℕ) (is_open is_paired : List Bool) (n : ℕ) (first marks : List Bool) (order : List ℕ) → Reaches (IsLoose facet_of is_paired) (replicate n false) [] first order → ((i : ℕ) → IsLoose facet_of is_paired i → is_marked first i ≡ true) → AreReachable facet_of is_open (λ j. is_marked first j ≡ true) marks → AreReachable facet_of is_open (IsLoose facet_of is_paired) marks
-AreReachable-loose facet_of is_open is_paired n first marks order reaches loose all =
-    let First : ℕ → Type 0 = λ j. is_marked first j ≡ true in
+pub AreReachable-loose : (facet_of : List ℕ) (is_open is_paired : List Bool) (n : ℕ) (first : State) (marks : List Bool) → Reaches (IsLoose facet_of is_paired) (record { facet_of = facet_of; waiting = is_open; marks = replicate n false; order = [] }) first → ((i : ℕ) → IsLoose facet_of is_paired i → is_marked first.marks i ≡ true) → AreReachable facet_of is_open (λ j. is_marked first.marks j ≡ true) marks → AreReachable facet_of is_open (IsLoose facet_of is_paired) marks
+AreReachable-loose facet_of is_open is_paired n first marks reaches loose all =
+    let First : ℕ → Type 0 = λ j. is_marked first.marks j ≡ true in
     let Loose : ℕ → Type 0 = IsLoose facet_of is_paired in
     let back : (i : ℕ) → First i → Loose i = λ i m. elim (reaches.new_ones i m) [ inl k ↦ absurd (false≢true (sym (none-marked n i) ∙ k)) | inr x ↦ x ] in
     record {

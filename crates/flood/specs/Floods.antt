@@ -1,7 +1,8 @@
 -- Reaching tetrahedra from facet to facet.
-use Rattle.std.specs.Prelude.{◌≡◌, ◌⊎◌, ℕ, ◌+◌, ◌/◌, ◌<◌, ◌≤◌, Bool, true, false, not, List, length, slice_index_or, count_by}
-use Rattle.flood.specs.declared.flood.Reached.{Reached}
+use Rattle.std.specs.Prelude.{◌≡◌, ◌⊎◌, ℕ, ◌+◌, ◌*◌, ◌/◌, ◌^◌, ◌<◌, ◌≤◌, Bool, true, false, not, List, length, slice_index_or, count_by}
 use Rattle.flood.specs.HalfFaces.{facet_at}
+use Rattle.flood.specs.Chains.{IsChained}
+use Rattle.flood.specs.declared.facets.Chains.{Chains}
 
 -- tetrahedron i has a half-face on the facet c
 pub record IsOn (facet_of : List ℕ) (c i : ℕ) : Type 0 where
@@ -48,28 +49,37 @@ pub record IsListed (marks : List Bool) (order : List ℕ) : Type 0 where
   pub listed : (i : ℕ) → is_marked marks i ≡ true → (k : ℕ) × (k < length order) × (slice_index_or order k 0 ≡ i)
   pub each_once : length order + count_by not marks ≡ length marks
 
+-- how far a flood has come: the facet of each half-face, whether each facet waits, a mark for each tetrahedron that
+-- was reached, and their numbers in the order reached
+pub record State : Type 0 where
+  pub facet_of : List ℕ
+  pub waiting : List Bool
+  pub marks : List Bool
+  pub order : List ℕ
+
+-- the chains are those of the tetrahedra with a mark, each facet waits or does not, and the order lists the marked ones
+pub record IsFlood (chains : Chains) (waiting marks : List Bool) (order : List ℕ) : Type 0 where
+  pub chained : IsChained chains
+  pub one_each : length waiting ≡ length chains.last.items
+  pub four_each : length chains.of.items ≡ 4 * length marks
+  pub few : length marks ≤ 2 ^ 24
+  pub listed : IsListed marks order
+
 -- more marks, all of tetrahedra that may be reached, and their numbers behind the others
-pub record Reaches (MayReach : ℕ → Type 0) (marks : List Bool) (order : List ℕ) (new_marks : List Bool) (new_order : List ℕ) : Type 0 where
-  pub one_each : length new_marks ≡ length marks
-  pub kept : (i : ℕ) → is_marked marks i ≡ true → is_marked new_marks i ≡ true
-  pub new_ones : (i : ℕ) → is_marked new_marks i ≡ true → (is_marked marks i ≡ true) ⊎ MayReach i
-  pub longer : length order ≤ length new_order
-  pub front : (k : ℕ) → k < length order → slice_index_or new_order k 0 ≡ slice_index_or order k 0
-
--- the marks and the order of the tetrahedra that were reached fit together
-abbrev pub AreListed : Reached → Type 0
-AreListed reached = IsListed reached.marks.items reached.order.items
-
--- more tetrahedra were reached, all of them such as may be
-abbrev pub ReachesMore : (ℕ → Type 0) → Reached → Reached → Type 0
-ReachesMore MayReach old new = Reaches MayReach old.marks.items old.order.items new.marks.items new.order.items
+pub record Reaches (MayReach : ℕ → Type 0) (old new : State) : Type 0 where
+  pub same_facets : new.facet_of ≡ old.facet_of
+  pub one_each : length new.marks ≡ length old.marks
+  pub kept : (i : ℕ) → is_marked old.marks i ≡ true → is_marked new.marks i ≡ true
+  pub new_ones : (i : ℕ) → is_marked new.marks i ≡ true → (is_marked old.marks i ≡ true) ⊎ MayReach i
+  pub longer : length old.order ≤ length new.order
+  pub front : (k : ℕ) → k < length old.order → slice_index_or new.order k 0 ≡ slice_index_or old.order k 0
 
 -- each tetrahedron with a half-face on the facet c is marked
 abbrev pub IsFilled : List ℕ → List Bool → ℕ → Type 0
 IsFilled facet_of marks c = (i : ℕ) → IsOn facet_of c i → is_marked marks i ≡ true
 
 -- fewer facets wait, and those that no longer do are filled
-pub record Fills (facet_of : List ℕ) (waiting new_waiting new_marks : List Bool) : Type 0 where
-  pub one_each : length new_waiting ≡ length waiting
-  pub fewer : (c : ℕ) → slice_index_or new_waiting c false ≡ true → slice_index_or waiting c false ≡ true
-  pub filled : (c : ℕ) → slice_index_or waiting c false ≡ true → slice_index_or new_waiting c false ≡ false → IsFilled facet_of new_marks c
+pub record FillsFacets (old new : State) : Type 0 where
+  pub one_each : length new.waiting ≡ length old.waiting
+  pub fewer : (c : ℕ) → slice_index_or new.waiting c false ≡ true → slice_index_or old.waiting c false ≡ true
+  pub filled : (c : ℕ) → slice_index_or old.waiting c false ≡ true → slice_index_or new.waiting c false ≡ false → IsFilled old.facet_of new.marks c

@@ -4,7 +4,7 @@ ghost use Rattle.grid.specs.Views.{corners_of, triples_of};
 
 use crate::conditions::{open_facets, paired_facets};
 use crate::facets::{Facets, chains_of, facets_of};
-use crate::flood::flood;
+use crate::flood::mark_reachable;
 use grid::{Face, Memory, Tet};
 use std::alloc::Global;
 
@@ -22,6 +22,6 @@ pub fn outside(alloc: Global, tets: &[Tet], tracked: &[Face]) -> Result<Vec<bool
     let is_open = open_facets(alloc, &triples, tracked)?;
     let chains = chains_of(alloc, triples.len(), of)?;
     let is_paired = paired_facets(alloc, tets, &chains)?;
-    let flags = flood(alloc, tets.len(), &chains, is_open, &is_paired)?;
+    let flags = mark_reachable(alloc, tets.len(), chains, is_open, &is_paired)?;
     Ok(flags)
 }

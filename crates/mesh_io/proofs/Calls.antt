@@ -55,32 +55,14 @@ ReadRose-after first old new before rose = record {
   rose = omega (arith, before.count.kept, rose.rose);
 }
 
-pub ReadRose-before : (first old new : FolderState) → ReadRose first old → ReadCall old new → ReadRose first new
-ReadRose-before first old new rose call = record {
-  may_fail = rose.may_fail;
-  rose = omega (arith, rose.rose, call.count.kept);
-}
-
 pub WriteRose-after : (first old new : FolderState) → WriteCall first old → WriteRose old new → WriteRose first new
 WriteRose-after first old new before rose = record {
   may_fail = sym before.kind.may_fail_writing ∙ rose.may_fail;
   rose = omega (arith, before.count.kept, rose.rose);
 }
 
-pub WriteRose-before : (first old new : FolderState) → WriteRose first old → WriteCall old new → WriteRose first new
-WriteRose-before first old new rose call = record {
-  may_fail = rose.may_fail;
-  rose = omega (arith, rose.rose, call.count.kept);
-}
-
 pub SinkRose-after : (first old new : SinkState) → SinkCall first old → SinkRose old new → SinkRose first new
 SinkRose-after first old new before rose = record {
   may_fail = sym before.may_fail ∙ rose.may_fail;
   rose = omega (arith, before.count.kept, rose.rose);
-}
-
-pub SinkRose-before : (first old new : SinkState) → SinkRose first old → SinkCall old new → SinkRose first new
-SinkRose-before first old new rose call = record {
-  may_fail = rose.may_fail;
-  rose = omega (arith, rose.rose, call.count.kept);
 }

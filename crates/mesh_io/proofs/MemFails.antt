@@ -1,5 +1,6 @@
 -- Lists of calls that are to fail.
-use Rattle.std.proofs.Common.{◌≡◌, ℕ, ◌≤◌, ◌==◌, ◌&&◌, ◌||◌, Bool, true, false, List, [], ◌∷◌, Err, refl, arith}
+use Rattle.std.proofs.Common.{◌≡◌, ℕ, ◌≤◌, ◌==◌, ◌&&◌, true, List, [], ◌∷◌, Err, refl, inl, inr, arith}
+use Rattle.std.proofs.lemmas.Bool.{and_parts, or_cases, or_left, or_right}
 use Rattle.mesh_io.specs.Faults.{counted}
 use Rattle.mesh_io.specs.Fails.{is_same_kind, is_listed, is_reading, lists_reading}
 use Rattle.mesh_io.specs.Folder.{Opens, Reads}
@@ -23,29 +24,14 @@ is_reading-same Write Read same reads = absurd (cc)
 is_reading-same Write Create same reads = absurd (cc)
 is_reading-same Write Write same reads = reads
 
-either : (a b : Bool) (P : Type 0) → (a || b) ≡ true → (a ≡ true → P) → (b ≡ true → P) → P
-either true b P t l r = l refl
-either false b P t l r = r t
-
-first_of : (a b : Bool) → (a && b) ≡ true → a ≡ true
-first_of true b t = refl
-first_of false b t = t
-
-or_true : (a b : Bool) → b ≡ true → (a || b) ≡ true
-or_true true b t = refl
-or_true false b t = t
-
-left_true : (a b : Bool) → a ≡ true → (a || b) ≡ true
-left_true true b t = refl
-left_true false b t = absurd (cc)
-
 -- where a call that reads is listed, the list has one
 lists_reading-listed : (fails : List MemFail) (kind : CallKind) (nth : ℕ) → is_reading kind ≡ true → is_listed fails kind nth ≡ true → lists_reading fails ≡ true
 lists_reading-listed [] kind nth reads listed = listed
 lists_reading-listed (f ∷ fs) kind nth reads listed =
-    either (is_same_kind f.kind kind && (f.nth == nth)) (is_listed fs kind nth) (lists_reading (f ∷ fs) ≡ true) listed
-    (λ here. left_true (is_reading f.kind) (lists_reading fs) (is_reading-same f.kind kind (first_of (is_same_kind f.kind kind) (f.nth == nth) here) reads))
-    (λ later. or_true (is_reading f.kind) (lists_reading fs) (lists_reading-listed fs kind nth reads later))
+    elim (or_cases (is_same_kind f.kind kind && (f.nth == nth)) (is_listed fs kind nth) listed) [
+      | inl here ↦ or_left (is_reading f.kind) (lists_reading fs) (is_reading-same f.kind kind (and_parts (is_same_kind f.kind kind) (f.nth == nth) here).0 reads)
+      | inr later ↦ or_right (is_reading f.kind) (lists_reading fs) (lists_reading-listed fs kind nth reads later)
+    ]
 
 -- an `open` fails
 pub open_fails : {T : Type 0} (m : MemState) (nth faults : ℕ) (name : List ℕ) → is_listed m.fails Open nth ≡ true → faults ≡ counted m.read_faults → m.read_faults ≤ faults → Opens {T = T} (folder_state m) (folder_state (record m { opens = nth; read_faults = faults })) name (Err open_issue.Failed)

@@ -1,5 +1,5 @@
 -- Lists of files by their names.
-use Rattle.std.proofs.Common.{◌≡◌, ◌≢◌, ℕ, suc, zero, ◌<◌, Bool, true, false, cond, List, [], ◌∷◌, ◌++◌, length, Option, None, Some, Result, Ok, Err, OnOk, refl, sym, ◌∙◌, ap, arith, get_or}
+use Rattle.std.proofs.Common.{◌≡◌, ◌≢◌, ℕ, suc, zero, ◌<◌, Bool, true, false, cond, List, [], ◌∷◌, ◌++◌, length, Option, None, Some, refl, sym, ◌∙◌, ap, arith, get_or}
 use Rattle.std.specs.Str.{bytes_eq}
 use Rattle.std.specs.Prelude.{slice_set}
 use Rattle.std.proofs.lemmas.Slice.Eq.{bytes_eq-Decides}
@@ -125,8 +125,3 @@ pub slice_set-put : (fs : List MemFile) (i : ℕ) (f d : MemFile) → i < length
 slice_set-put [] i f d within same = absurd (omega arith)
 slice_set-put (g ∷ fs) zero f d within same = ap (λ n. record { name = n; bytes = f.bytes } ∷ fs) same
 slice_set-put (g ∷ fs) (suc i) f d within same = ap (λ gs. g ∷ gs) (slice_set-put fs i f d (omega arith) same)
-
--- what follows where there was memory
-pub on_ok : {T E P Q : Type 0} (r : Result T E) → (P → Q) → OnOk r P → OnOk r Q
-on_ok (Ok x) f p = f p
-on_ok (Err e) f p = p

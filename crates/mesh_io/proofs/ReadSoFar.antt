@@ -1,6 +1,6 @@
 -- Reading a file piece by piece.
-use Rattle.std.proofs.Common.{◌≡◌, ℕ, ◌+◌, ◌-◌, ◌<◌, ◌≤◌, true, List, [], ◌++◌, Vec, length, take, drop, Some, Result, Ok, Err, sym, ◌∙◌, ap, arith, append_assoc, unwrap_or, length-append, length-take}
-use Rattle.std.proofs.lemmas.List.{append-nil, take-append-drop, drop-drop}
+use Rattle.std.proofs.Common.{◌≡◌, ℕ, ◌+◌, true, List, [], ◌++◌, Vec, length, take, drop, Some, Result, Ok, Err, sym, ◌∙◌, ap, arith, append_assoc, unwrap_or, length-append, length-take}
+use Rattle.std.proofs.lemmas.List.{take-append-drop, drop-drop}
 use Rattle.std.specs.declared.alloc.Global.{Global}
 use Rattle.mesh_io.specs.Folder.{FolderState, ReadCall, IsOpened, Reads, left, content_of}
 use Rattle.mesh_io.specs.Read.{ReadsAll, ReadsRest}
@@ -37,20 +37,6 @@ goes_on first old new items into after n had read is = record {
         place = omega (arith, given.moved, front.place, ap length is, length-append items (take n into), ap length given.bytes, length-take n (left old), given.there);
       };
 }
-
--- nothing was left, so the items are all that was left first
-pub is_whole : (first old new : FolderState) (items into : List ℕ) (n : ℕ) → HasRead first old items → Reads old new into (Ok n) → 0 < length into → n ≡ 0 → first.told ≡ true → items ≡ left first
-is_whole first old new items into n had read some none told =
-    let front = had.front told in
-    let given = read.given (had.call.kind.told ∙ told) in
-    sym (append-nil items) ∙ ap (λ l. items ++ l) (sym (given.end some none)) ∙ front.joined
-
--- more was given than there was room for
-pub is_longer : (first old new : FolderState) (items into : List ℕ) (n limit : ℕ) → HasRead first old items → Reads old new into (Ok n) → length items ≤ limit → limit - length items < n → first.told ≡ true → limit < length (left first)
-is_longer first old new items into n limit had read fits more told =
-    let front = had.front told in
-    let given = read.given (had.call.kind.told ∙ told) in
-    omega (arith, given.there, length-append items (left old), ap length front.joined)
 
 -- right after the opening all of the file is left
 left-opened : (first old : FolderState) (name content : List ℕ) → first.told ≡ true → ReadCall first old → IsOpened first old name → first.files name ≡ Some content → left old ≡ content

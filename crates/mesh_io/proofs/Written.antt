@@ -1,6 +1,6 @@
 -- A front of the bytes has been written.
 use Rattle.std.proofs.Common.{◌≡◌, ℕ, ◌+◌, List, [], ◌++◌, take, drop, Some, Ok, sym, ◌∙◌, ap, append_assoc, unwrap_or}
-use Rattle.std.proofs.lemmas.List.{append-nil, take-append-drop, drop-drop}
+use Rattle.std.proofs.lemmas.List.{drop-drop}
 use Rattle.std.proofs.Math.Seq.{take-add}
 use Rattle.mesh_io.specs.Folder.{FolderState, IsCreated, WriteCall, WritesSome}
 use Rattle.mesh_io.specs.Sink.{SinkState, SinkCall, Appended, Writes}
@@ -12,10 +12,6 @@ next_part n k bytes rest e = take-add n k bytes ∙ ap (λ r. take n bytes ++ ta
 
 next_rest : (n k : ℕ) (bytes rest : List ℕ) → rest ≡ drop n bytes → drop k rest ≡ drop (n + k) bytes
 next_rest n k bytes rest e = ap (drop k) e ∙ drop-drop k n bytes
-
--- where no rest is left, the front is all of the bytes
-pub none_left : (n : ℕ) (bytes : List ℕ) → [] ≡ drop n bytes → take n bytes ≡ bytes
-none_left n bytes e = sym (append-nil (take n bytes)) ∙ ap (λ r. take n bytes ++ r) e ∙ take-append-drop n bytes
 
 -- of the bytes all but the rest was appended since the first state
 pub record HasAppended (first now : SinkState) (bytes rest : List ℕ) : Type 0 where

@@ -20,8 +20,8 @@ chains_of-requires c =
       few = omega arith;
     }
 
-pub flood-requires : goal.flood-requires
-flood-requires c =
+pub mark_reachable-requires : goal.mark_reachable-requires
+mark_reachable-requires c =
     let one_each = ap (λ (x : List ℕ). length x) c.in_ok-chains.ensures.same ∙ c.in_ok-triples.ensures.one_each in
     let one_last = c.in_ok-chains.ensures.one_last in
     let one_open = c.in_ok-is_open.ensures.one_each in
