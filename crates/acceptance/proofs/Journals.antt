@@ -1,5 +1,5 @@
 -- What a journal keeps of a mesh, and that its tries are plain.
-use Rattle.std.proofs.Common.{◌≡◌, ℕ, zero, suc, ◌+◌, ◌<◌, ◌≤◌, Bool, true, ◌&&◌, eqb, List, [], ◌∷◌, ◌++◌, length, take, refl, sym, ap, ◌∙◌, subst, inl, inr, arith}
+use Rattle.std.proofs.Common.{◌≡◌, ℕ, zero, suc, ◌+◌, ◌<◌, ◌≤◌, Bool, true, ◌&&◌, eqb, List, [], ◌∷◌, length, take, sym, ap, ◌∙◌, subst, inl, inr, arith}
 use Rattle.std.specs.List.{count_by, AllByRecursion as Each}
 use Rattle.std.proofs.lemmas.Bool.{cases_Bool, and_parts, or_right}
 use Rattle.std.proofs.lemmas.List.{take_more, take_all}
@@ -16,7 +16,7 @@ use Rattle.mesh_types.specs.declared.tries.TryLine.{TryLine}
 use Rattle.mesh_types.specs.Journals.{line, after, last_mesh, line_at, try_at, mesh_at, FollowRule}
 use Rattle.mesh_types.specs.Tries.{is_candidate, tets_at_edge, tets_at_point}
 use Rattle.mesh_types.specs.Verdicts.{Setting, IsVerdict}
-use Rattle.mesh_types.proofs.ForCallers.{split_is, collapse_is, edge_swap_is, face_swap_is, shift_is, Each-weaker, inside_law, has_first, tries_law, below_each, candidate-at}
+use Rattle.mesh_types.proofs.ForCallers.{split_is, collapse_is, edge_swap_is, face_swap_is, shift_is, Each-weaker, inside_law, has_first, tries_law, below_each, last-push, candidate-at}
 use Rattle.report_text.specs.Plain.{IsPlainTry, ArePlainTries}
 use Rattle.acceptance.proofs.Insertions.{IsGoodMesh}
 use Rattle.acceptance.proofs.Corners.{corner_present}
@@ -91,10 +91,6 @@ try_good s m t Kept h c is =
     record { well_formed = both.0; tiles = both.1; inside = inside_law s.side m t h.inside; within = is why.Full }
 
 -- ---- the journal
-last-push : (l : ℕ) (m : Mesh) (ts : List TryLine) (t : TryLine) → last_mesh l m (ts ++ t ∷ []) ≡ after l (last_mesh l m ts) t
-last-push l m [] t = refl
-last-push l m (u ∷ ts) t = last-push l (after l m u) ts t
-
 module _ (s : Setting) (m : Mesh) (budget : ℕ) (lines : List TryLine) (follow : FollowRule s m budget lines) (good : IsGoodMesh s.side m) where
   mesh-next : (i : ℕ) → i < length lines → mesh_at s.side m lines (i + 1) ≡ after s.side (mesh_at s.side m lines i) (line_at lines i)
   mesh-next i lt = ap (last_mesh s.side m) (take_more lines i (line (Split 0 0) Kept) lt) ∙ last-push s.side m (take i lines) (line_at lines i)

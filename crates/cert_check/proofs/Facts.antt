@@ -8,7 +8,7 @@ use Rattle.std.proofs.lemmas.List.{get_or_default, length-replicate, length-map}
 use Rattle.std.proofs.lemmas.List.Elements.{All-append, All-cons, All-map, All-nil, All-replicate}
 use Rattle.std.proofs.Math.ListN.{get_or-map}
 use Rattle.soup.proofs.ForCallers.{IsInBox-wider}
-use native.Mathlib.Nat.{pow-le-pow_right, pow-suc, pow-zero}
+use native.Mathlib.Nat.{pow-le-pow_right}
 use mir.Syntax.{w128}
 use Rattle.int_algebra.proofs.Bounds.{fits_within, within_natural}
 use Rattle.grid.specs.declared.shapes.Point.{Point}
@@ -63,9 +63,6 @@ kept-same side s = kept-side side s ∙ sym (side-is side s)
 
 pub cube-few : (n : ℕ) → n ≤ largest_side → n * n * n ≤ 18014398509481984
 cube-few n h = mul-le-mul (mul-le-mul h h) h
-
-pub cube-is : (n : ℕ) → n ^ 3 ≡ n * n * n
-cube-is n = rw (pow-suc n 2, pow-suc n 1, pow-suc n 0, pow-zero n) (omega arith)
 
 pub kept-cube : (n : ℕ) → n ≤ largest_side → to_z w128 (6 * (n * n * n)) ≡ pos (6 * (n * n * n))
 kept-cube n h = let few = cube-few n h in omega (arith, ints, few)
