@@ -5,8 +5,9 @@ ghost use Rattle.checking.specs.Lines.{face_text, fault_text, finding_line, find
 use cert_check::{Fault, Finding};
 use grid::{Face, Memory};
 use itoa::Buffer;
-use printing::{put, put_number, status};
+use printing::status;
 use std::alloc::Global;
+use texts::{put, put_number};
 
 // A number behind the name of a fault.
 fn put_place(out: &mut Vec<u8>, name: &[u8], n: u32) -> Result<(), Memory>

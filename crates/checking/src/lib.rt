@@ -3,7 +3,7 @@
 #![tactic(auto)]
 
 mod case;
-mod checked;
+mod command;
 mod finding;
 
-pub use checked::check;
+pub use command::check;

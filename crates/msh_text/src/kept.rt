@@ -21,8 +21,8 @@ fn kept_tets(alloc: Global, tets: &[MshTet]) -> Result<Vec<MshTet>, Memory>
     Ok(kept)
 }
 
-// A bound raised above the number.
-fn raised(bound: usize, number: u32) -> usize
+// Raises a bound above the number.
+fn raise_bound(bound: usize, number: u32) -> usize
     requires { bound ≤ 2 ^ 32 }
     ensures number { number < result }
     ensures bound { bound ≤ result }
@@ -38,7 +38,7 @@ fn number_bound(nodes: &[MshNode]) -> usize
 {
     let mut bound = 0;
     for node in nodes {
-        bound = raised(bound, node.number);
+        bound = raise_bound(bound, node.number);
     }
     bound
 }

@@ -8,16 +8,10 @@ use grid::{Face, Memory};
 use itoa::Buffer;
 use lines::put_coordinate;
 use std::alloc::Global;
+use texts::put;
 
 // Bytes that no line is longer than, for coordinates of ten digits and a sign.
 const LINE: usize = 48;
-
-fn put(out: &mut Vec<u8>, text: &[u8]) -> Result<(), Memory>
-    ensures { OnOk result (out.new.items ≡ out.old.items ++ text.now) }
-{
-    out.extend_from_slice(text)?;
-    Ok(())
-}
 
 // Each number behind a space.
 fn put_spaced(out: &mut Vec<u8>, buffer: &mut Buffer, numbers: &[u32]) -> Result<(), Memory>

@@ -27,7 +27,7 @@ pub struct Coordinate {
     pub end: usize,
 }
 
-fn refused(kind: OffKind, place: usize) -> OffIssue
+fn refusal(kind: OffKind, place: usize) -> OffIssue
     ensures { result ≡ OffIssue.At kind place }
 {
     OffIssue::At {
@@ -43,7 +43,7 @@ fn next(bytes: &[u8], from: usize) -> Result<Span, OffIssue>
 {
     match next_word(bytes, from) {
         Some(word) => Ok(word),
-        None => Err(refused(OffKind::Ended, bytes.len())),
+        None => Err(refusal(OffKind::Ended, bytes.len())),
     }
 }
 
@@ -53,15 +53,15 @@ pub fn read_keyword(bytes: &[u8]) -> Result<usize, OffIssue>
     ensures high { IfOk result (λ end. end ≤ length bytes.now) }
 {
     let Some(word) = next_word(bytes, 0) else {
-        return Err(refused(OffKind::NoKeyword, bytes.len()));
+        return Err(refusal(OffKind::NoKeyword, bytes.len()));
     };
     let text = &bytes[word.start..word.end];
     if text == b"OFF".as_slice() {
         Ok(word.end)
     } else if text.ends_with(b"OFF") {
-        Err(refused(OffKind::OtherKeyword, word.start))
+        Err(refusal(OffKind::OtherKeyword, word.start))
     } else {
-        Err(refused(OffKind::NoKeyword, word.start))
+        Err(refusal(OffKind::NoKeyword, word.start))
     }
 }
 
@@ -74,10 +74,10 @@ fn count_of(bytes: &[u8], word: Span) -> Result<Number, OffIssue>
     ensures few { IfOk result (λ x. x.value ≤ most_input) }
 {
     let Some(value) = number(&bytes[word.start..word.end]) else {
-        return Err(refused(OffKind::BadCount, word.start));
+        return Err(refusal(OffKind::BadCount, word.start));
     };
     if value > MOST_INPUT {
-        return Err(refused(OffKind::TooMany, word.start));
+        return Err(refusal(OffKind::TooMany, word.start));
     }
     Ok(Number {
         value,
@@ -95,7 +95,7 @@ pub fn read_first_count(bytes: &[u8], from: usize) -> Result<Number, OffIssue>
     let word = next(bytes, from)?;
     let text = &bytes[word.start..word.end];
     if text == b"BINARY".as_slice() {
-        return Err(refused(OffKind::OtherKeyword, word.start));
+        return Err(refusal(OffKind::OtherKeyword, word.start));
     }
     count_of(bytes, word)
 }
@@ -120,7 +120,7 @@ pub fn read_edge_count(bytes: &[u8], from: usize) -> Result<usize, OffIssue>
     let word = next(bytes, from)?;
     let text = &bytes[word.start..word.end];
     if number(text).is_none() {
-        return Err(refused(OffKind::BadCount, word.start));
+        return Err(refusal(OffKind::BadCount, word.start));
     }
     Ok(word.end)
 }
@@ -136,13 +136,13 @@ pub fn read_corner_count(bytes: &[u8], from: usize, made: usize) -> Result<Numbe
 {
     let word = next(bytes, from)?;
     let Some(value) = number(&bytes[word.start..word.end]) else {
-        return Err(refused(OffKind::BadCount, word.start));
+        return Err(refusal(OffKind::BadCount, word.start));
     };
     if value < 3 {
-        return Err(refused(OffKind::ShortFace, word.start));
+        return Err(refusal(OffKind::ShortFace, word.start));
     }
     if made + (value as usize - 2) > MOST_INPUT as usize {
-        return Err(refused(OffKind::TooMany, word.start));
+        return Err(refusal(OffKind::TooMany, word.start));
     }
     Ok(Number {
         value,
@@ -160,10 +160,10 @@ pub fn read_index(bytes: &[u8], from: usize, vertices: u32) -> Result<Number, Of
 {
     let word = next(bytes, from)?;
     let Some(value) = number(&bytes[word.start..word.end]) else {
-        return Err(refused(OffKind::BadNumber, word.start));
+        return Err(refusal(OffKind::BadNumber, word.start));
     };
     if value >= vertices {
-        return Err(refused(OffKind::BadIndex, word.start));
+        return Err(refusal(OffKind::BadIndex, word.start));
     }
     Ok(Number {
         value,
@@ -188,6 +188,6 @@ pub fn read_coordinate(
             value,
             end: word.end,
         }),
-        Err(kind) => Err(refused(kind, word.start)),
+        Err(kind) => Err(refusal(kind, word.start)),
     }
 }

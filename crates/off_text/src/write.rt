@@ -8,16 +8,10 @@ use grid::Memory;
 use itoa::Buffer;
 use soup::Raw;
 use std::alloc::Global;
+use texts::put;
 
 /// Bytes that no line is longer than, for coordinates of ten digits and a sign.
 const LINE: usize = 36;
-
-fn put(out: &mut Vec<u8>, text: &[u8]) -> Result<(), Memory>
-    ensures { OnOk result (out.new.items ≡ out.old.items ++ text.now) }
-{
-    out.extend_from_slice(text)?;
-    Ok(())
-}
 
 fn put_counts(out: &mut Vec<u8>, vertices: usize, faces: usize) -> Result<(), Memory>
     ensures { OnOk result (out.new.items ≡ out.old.items ++ count_line vertices faces) }

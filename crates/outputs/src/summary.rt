@@ -9,12 +9,12 @@ use itoa::Buffer;
 use mesh_types::{Again, End, Outcome};
 use mesher::Meshed;
 use msh_text::{MshMesh, MshTet};
-use printing::{put, put_number};
 use report_text::Second;
 use std::alloc::Global;
+use texts::{put, put_number};
 
 // How many tetrahedra are kept.
-fn kept(tets: &[MshTet]) -> usize
+fn count_kept(tets: &[MshTet]) -> usize
     ensures { result ≡ count_by (λ t. nat_eq t.tag 1) tets.now }
 {
     tets.iter().filter(|tet| tet.tag == 1).count()
@@ -31,7 +31,7 @@ fn is_rolled_back(outcome: &Outcome) -> bool
 }
 
 // How many triangles the first turn inserted.
-fn inserted(outcomes: &[Outcome]) -> usize
+fn count_inserted(outcomes: &[Outcome]) -> usize
     ensures { result ≡ count_by (λ o. not (is_rolled_back o)) outcomes.now }
 {
     outcomes
@@ -101,7 +101,7 @@ fn put_mesh(out: &mut Vec<u8>, mesh: &MshMesh) -> Result<(), Memory>
     put(out, b" tracked ")?;
     put_number(out, mesh.tracked.len() as u64)?;
     put(out, b" kept ")?;
-    put_number(out, kept(mesh.tets.as_slice()) as u64)
+    put_number(out, count_kept(mesh.tets.as_slice()) as u64)
 }
 
 // The sum of two counts, which may pass 64 bits.
@@ -118,7 +118,7 @@ fn put_sum(out: &mut Vec<u8>, first: usize, second: usize) -> Result<(), Memory>
 fn put_outcomes(out: &mut Vec<u8>, made: &Meshed) -> Result<(), Memory>
     ensures { OnOk result (out.new.items ≡ out.old.items ++ outcome_counts made.now) }
 {
-    let inserted = inserted(made.outcomes.as_slice());
+    let inserted = count_inserted(made.outcomes.as_slice());
     let left_out = left_out(made.outcomes.as_slice(), &made.second);
     put(out, b" inserted ")?;
     put_sum(out, inserted, inserted_again(&made.second))?;

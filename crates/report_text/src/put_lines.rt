@@ -6,10 +6,11 @@ ghost use Rattle.lines.specs.Fields.{space, word};
 ghost use Rattle.report_text.specs.Rules.{why_text, verdict_text, end_text};
 ghost use Rattle.report_text.specs.Text.{defect_text, words_of, triangle_line, again_line, vertex_text, attempt_text, try_line, journal_text, top_text, cert_text, covering_line};
 
-use crate::put_words::{put, put_four, put_named, put_three, put_word};
+use crate::put_words::{put_four, put_named, put_three, put_word};
 use crate::report::Covering;
 use grid::Memory;
 use mesh_types::{Again, Cert, Defect, End, Outcome, Try, TryLine, Verdict, Why};
+use texts::put;
 
 fn put_defect(out: &mut Vec<u8>, defect: Defect, shift: [i64; 3]) -> Result<(), Memory>
     requires { All (λ s. unsigned_abs s ≤ 2 * 10 ^ 9) shift }

@@ -6,8 +6,8 @@ use Rattle.msh_text.proofs.kept.number_bound.Goals as goal
 
 pub loop-node-preserved : goal.loop-node-preserved
 loop-node-preserved c = record {
-  below = below_more c.args.nodes.now c.loop-node.node-index c.loop-node.bound c.raised-bound.result no_node c.loop-node-test.true c.loop-node.invariant.below c.raised-bound.ensures.bound c.raised-bound.ensures.number;
-  small = c.raised-bound.ensures.small;
+  below = below_more c.args.nodes.now c.loop-node.node-index c.loop-node.bound c.raise_bound-bound.result no_node c.loop-node-test.true c.loop-node.invariant.below c.raise_bound-bound.ensures.bound c.raise_bound-bound.ensures.number;
+  small = c.raise_bound-bound.ensures.small;
 }
 
 pub returns : goal.returns

@@ -1,7 +1,7 @@
 use Rattle.std.proofs.Common.{ℕ, List, subst, ◌∙◌}
 use Rattle.mesh_io.specs.Sink.{Appended}
 use Rattle.checking.proofs.Judging.{refused, judged, told_of, unsaid}
-use Rattle.checking.proofs.checked.check.Goals as goal
+use Rattle.checking.proofs.command.check.Goals as goal
 
 pub returns-in-Err : goal.returns-in-Err
 returns-in-Err g c =
