@@ -5,7 +5,7 @@ use Rattle.std.proofs.lemmas.Bool.{cases_Bool, true≢false, and_parts, and_from
 use Rattle.std.proofs.lemmas.Bool.Decides.{nat_tests}
 use Rattle.std.proofs.lemmas.List.Elements.{All-from_recursion, recursion_from_All}
 use Rattle.grid.specs.declared.shapes.Point.{Point}
-use Rattle.grid.specs.Simplices.{has, has_all}
+use Rattle.grid.specs.Simplices.{has, has_all, same_triple}
 use Rattle.mesh_types.specs.Insertion.{NamesFirst}
 use Rattle.mesh_types.specs.Phases.{points_of}
 use Rattle.mesh_store.specs.Parts.{live_tets}
@@ -15,7 +15,6 @@ use Rattle.tet_slots.specs.Slots.{slot_at}
 use Rattle.std.proofs.lemmas.List.{take_more}
 use Rattle.std.proofs.lemmas.List.Folds.{list_any-append, Any-from_list_any, list_any-from_Any}
 use Rattle.std.specs.List.{flat_map}
-use Rattle.std.specs.Str.{bytes_eq}
 use Rattle.grid.specs.declared.shapes.Tri.{Tri}
 use Rattle.grid.specs.Meshes.{Mesh}
 use Rattle.mesh_types.specs.Phases.{wanted_in, wanted, is_unresolved}
@@ -176,8 +175,8 @@ first-step slots es i d u v a b c lt pair e h g =
 among-any : (test : List ℕ → Bool) (xs ys : List (List ℕ)) → ((t : List ℕ) → is_among t xs ≡ true → is_among t ys ≡ true) → list_any test xs ≡ true → list_any test ys ≡ true
 among-any test xs ys more e =
     let a = Any-from_list_any test xs e in
-    let there : is_among a.1 xs ≡ true = list_any-from_Any (bytes_eq a.1) xs (a.0, a.1, a.2, a.3, equal_to a.1 a.1 refl) in
-    let b = Any-from_list_any (bytes_eq a.1) ys (more a.1 there) in
+    let there : is_among a.1 xs ≡ true = list_any-from_Any (same_triple a.1) xs (a.0, a.1, a.2, a.3, equal_to a.1 a.1 refl) in
+    let b = Any-from_list_any (same_triple a.1) ys (more a.1 there) in
     list_any-from_Any test ys (b.0, b.1, b.2, b.3, ap test (sym (equal_from a.1 b.1 b.4)) ∙ a.4)
 
 any-in_order_once : (test : List ℕ → Bool) (xs : List (List ℕ)) → list_any test (in_order_once xs) ≡ list_any test xs

@@ -1,5 +1,5 @@
 -- The slots that a search found, and their tetrahedra.
-use Rattle.std.specs.Prelude.{◌≡◌, ℕ, Bool, ◌&&◌, cond, List, [], ◌∷◌, map}
+use Rattle.std.specs.Prelude.{◌≡◌, ℕ, Bool, ◌&&◌, if◌then◌else◌, List, [], ◌∷◌, map}
 use Rattle.grid.specs.declared.shapes.Point.{Point}
 use Rattle.grid.specs.declared.shapes.Tri.{Tri}
 use Rattle.tet_slots.specs.declared.slot.Slot.{Slot}
@@ -25,14 +25,14 @@ touched_at points slots t k = record { slot = k; touch = touch_of t (points_of p
 
 -- the same of these corners, where the triangle touches them
 abbrev pub picked_of : Tri → ℕ → List Point → List Touched
-picked_of t k corners = cond (touches t corners) (record { slot = k; touch = touch_of t corners } ∷ []) []
+picked_of t k corners = if touches t corners then record { slot = k; touch = touch_of t corners } ∷ [] else []
 
 abbrev pub picked : List Point → List Slot → Tri → ℕ → List Touched
 picked points slots t k = picked_of t k (points_of points (slot_at slots k).tet.0)
 
 -- the same where the slot is live, and meets the box from lo to hi
 abbrev pub picked_near : List Point → List Slot → Tri → Point → Point → ℕ → List Touched
-picked_near points slots t lo hi k = cond ((slot_at slots k).live && is_met lo hi (points_of points (slot_at slots k).tet.0)) (picked points slots t k) []
+picked_near points slots t lo hi k = if (slot_at slots k).live && is_met lo hi (points_of points (slot_at slots k).tet.0) then picked points slots t k else []
 
 -- the live slots that a triangle touches, in rising order, by a box about it
 pub record AreTouching (points : List Point) (slots : List Slot) (t : Tri) (near : Touching) : Type 0 where

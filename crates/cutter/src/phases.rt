@@ -8,7 +8,7 @@ ghost use Rattle.grid.specs.Meshes.{IsWithinLimits};
 ghost use Rattle.grid.specs.Planes.{IsDegenerate};
 ghost use Rattle.mesh_store.specs.Changes.{IsGrown, IsSameTransaction};
 ghost use Rattle.mesh_store.specs.Parts.{mesh_in, rolled_back};
-ghost use Rattle.mesh_store.specs.Sound.{IsSound};
+ghost use Rattle.mesh_store.specs.Sound.{IsSoundStore};
 ghost use Rattle.mesh_types.specs.CuttingRule.{splits};
 ghost use Rattle.mesh_types.specs.Phases.{cut_at, phase, wanted_cuts};
 ghost use Rattle.std.specs.Prelude.{All, Err, IfOk, IsSome, OnErr, OnOk, [], length, map, true, ◌+◌, ◌<◌, ◌∷◌, ◌≡◌};
@@ -56,7 +56,7 @@ fn wanted_cuts(
     requires index { i < 4 }
     requires near { AreTouching store.now.parts.points store.now.parts.slots triangle.now near.now }
     ensures cuts { IfOk result (λ v. v.items ≡ wanted_cuts (mesh_in store.now.parts) triangle.now i) }
-    ensures sound { IsSound store.now.side store.now.parts }
+    ensures sound { IsSoundStore store.now.side store.now.parts }
 {
     let slots = store.slots();
     let mut edges = near_wanted(alloc, triangle, i, slots, near)?;

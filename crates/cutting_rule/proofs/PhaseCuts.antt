@@ -14,7 +14,7 @@ use Rattle.planes.specs.Crossings.{HaveOppositeSigns}
 use Rattle.planes.proofs.ForCallers.{crossing-IsInBox, crossing-IsOn}
 use Rattle.mesh_types.specs.declared.cut.Cut.{Cut}
 use Rattle.mesh_types.specs.CuttingRule.{splits, phase_plane}
-use Rattle.mesh_types.specs.CutLists.{IsCut, AreCuts, ends_of}
+use Rattle.mesh_types.specs.CutLists.{IsCutBelow, AreCuts, ends_of}
 use Rattle.mesh_types.specs.Phases.{points_of, cut_at, wanted_in, wanted, wanted_cuts}
 use Rattle.mesh_types.specs.Refines.{IsCutOf, refine}
 use Rattle.mesh_types.specs.Tracking.{in_order_once}
@@ -28,8 +28,8 @@ module _ (points : List Point) (plane : Plane) where
   pub split-opposite : (e : List ℕ) (h : IsSplitEdge points plane e) → HaveOppositeSigns plane (point_at points h.u) (point_at points h.v)
   split-opposite e h = opposite plane (point_at points h.u) (point_at points h.v) (subst (λ f. splits plane (points_of points f) ≡ true) h.is h.apart)
 
-  cut-is : (e : List ℕ) → IsSplitEdge points plane e → IsCut (length points) (cut_at points plane e)
-  cut-is e h = subst (λ f. IsCut (length points) (cut_at points plane f)) (sym h.is) (record { ends_rise = h.rises; in_range = h.in_range })
+  cut-is : (e : List ℕ) → IsSplitEdge points plane e → IsCutBelow (length points) (cut_at points plane e)
+  cut-is e h = subst (λ f. IsCutBelow (length points) (cut_at points plane f)) (sym h.is) (record { ends_rise = h.rises; in_range = h.in_range })
 
   cut-ends : (e : List ℕ) → IsSplitEdge points plane e → ends_of (cut_at points plane e) ≡ e
   cut-ends e h = subst (λ f. ends_of (cut_at points plane f) ≡ f) (sym h.is) refl
@@ -68,7 +68,7 @@ unfolding wanted_cuts
 wanted_cuts-AreCuts m t i h =
     let each = wanted-split m t i h in
     record {
-      each = cuts-of m.points (phase_plane t i) (IsCut (length m.points)) (cut-is m.points (phase_plane t i)) (wanted m t i) each;
+      each = cuts-of m.points (phase_plane t i) (IsCutBelow (length m.points)) (cut-is m.points (phase_plane t i)) (wanted m t i) each;
       ordered = subst Ordered (sym (ends-all m.points (phase_plane t i) (wanted m t i) each)) (wanted-Ordered m t i);
     }
 

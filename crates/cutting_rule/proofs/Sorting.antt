@@ -7,7 +7,6 @@ use Rattle.std.specs.Cmp.Lexicographic.{slice_cmp}
 use Rattle.std.specs.List.{list_any, AllByRecursion, dedup, dedup_from}
 use Rattle.std.specs.List.Sorted.{IsPermutation, IsSorted, IsStrictlySortedBy}
 use Rattle.std.specs.Ordering.{nat_cmp, is_lt}
-use Rattle.std.specs.Str.{bytes_eq}
 use Rattle.std.proofs.lemmas.Bool.{cases_Bool}
 use Rattle.std.proofs.lemmas.Bool.Decides.{nat_tests}
 use Rattle.std.proofs.lemmas.Cmp.{same_from_slice_cmp, nat_list_cmp_total}
@@ -16,6 +15,7 @@ use Rattle.std.proofs.lemmas.List.Sorted.{list_any-IsPermutation}
 use Rattle.std.proofs.lemmas.Map.Text.{is_eq-slice_cmp}
 use Rattle.std.proofs.Common.{arith, inl, inr}
 use Rattle.grid.specs.Meshes.{is_below, Ordered}
+use Rattle.grid.specs.Simplices.{same_triple}
 use Rattle.mesh_types.specs.Tracking.{in_order_once}
 use Rattle.mesh_types.proofs.ForCallers.{is_among, equal_from, ordered_same, in_order_once-Ordered, is_among-in_order_once}
 
@@ -35,7 +35,7 @@ module _ {X : Type 0} (f : X → List ℕ) where
   cmp x y = slice_cmp nat_cmp (f x) (f y)
 
   abbrev pub same : X → X → Bool
-  same x y = bytes_eq (f x) (f y)
+  same x y = same_triple (f x) (f y)
 
   cmp-total : IsTotalOrder cmp
   cmp-total = record {
@@ -53,24 +53,24 @@ module _ {X : Type 0} (f : X → List ℕ) where
   Ordered-strict [] h = tt
   Ordered-strict (x ∷ xs) h = (below_all x xs h.0, Ordered-strict xs h.1)
 
-  any-dedup_from : (t : List ℕ) (k : X) (xs : List X) → is_among t (map f (dedup_from same k xs)) ≡ (bytes_eq t (f k) || is_among t (map f xs))
+  any-dedup_from : (t : List ℕ) (k : X) (xs : List X) → is_among t (map f (dedup_from same k xs)) ≡ (same_triple t (f k) || is_among t (map f xs))
   any-dedup_from t k [] = refl
   any-dedup_from t k (x ∷ xs) = elim (cases_Bool (same x k)) [
-    | inl e ↦ rw e (any-dedup_from t k xs ∙ or_drop (bytes_eq t (f k)) (bytes_eq t (f x)) (is_among t (map f xs)) (ap (bytes_eq t) (equal_from (f x) (f k) e)))
-    | inr e ↦ rw e (ap (λ b. bytes_eq t (f k) || b) (any-dedup_from t x xs))
+    | inl e ↦ rw e (any-dedup_from t k xs ∙ or_drop (same_triple t (f k)) (same_triple t (f x)) (is_among t (map f xs)) (ap (same_triple t) (equal_from (f x) (f k) e)))
+    | inr e ↦ rw e (ap (λ b. same_triple t (f k) || b) (any-dedup_from t x xs))
   ]
 
   any-dedup : (t : List ℕ) (xs : List X) → is_among t (map f (dedup same xs)) ≡ is_among t (map f xs)
   any-dedup t [] = refl
   any-dedup t (x ∷ xs) = any-dedup_from t x xs
 
-  any-map : (t : List ℕ) (xs : List X) → is_among t (map f xs) ≡ list_any (λ x. bytes_eq t (f x)) xs
+  any-map : (t : List ℕ) (xs : List X) → is_among t (map f xs) ≡ list_any (λ x. same_triple t (f x)) xs
   any-map t [] = refl
-  any-map t (x ∷ xs) = ap (λ (b : Bool). bytes_eq t (f x) || b) (any-map t xs)
+  any-map t (x ∷ xs) = ap (λ (b : Bool). same_triple t (f x) || b) (any-map t xs)
 
   pub sorted-once : (xs ys : List X) → IsPermutation xs ys → IsSorted cmp ys → map f (dedup same ys) ≡ in_order_once (map f xs)
   sorted-once xs ys moved sorted =
       ordered_same (map f (dedup same ys)) (in_order_once (map f xs))
       (Ordered-strict (dedup same ys) (IsStrictlySortedBy-dedup cmp-total (λ x y. sym (is_eq-slice_cmp (f x) (f y))) ys sorted))
       (in_order_once-Ordered (map f xs))
-      (λ t. any-dedup t ys ∙ (any-map t ys ∙ (sym (list_any-IsPermutation (λ x. bytes_eq t (f x)) xs ys moved) ∙ (sym (any-map t xs) ∙ sym (is_among-in_order_once t (map f xs))))))
+      (λ t. any-dedup t ys ∙ (any-map t ys ∙ (sym (list_any-IsPermutation (λ x. same_triple t (f x)) xs ys moved) ∙ (sym (any-map t xs) ∙ sym (is_among-in_order_once t (map f xs))))))

@@ -1,5 +1,5 @@
 -- Where a triangle's wanted edges and its section can be.
-use Rattle.std.specs.Prelude.{◌≡◌, ℕ, zero, suc, ℤ, pos, ◌≤ℤ◌, Bool, true, false, ◌&&◌, ◌||◌, cond, Option, None, Some, List, [], ◌∷◌, map}
+use Rattle.std.specs.Prelude.{◌≡◌, ℕ, zero, suc, ℤ, pos, ◌≤ℤ◌, Bool, true, false, ◌&&◌, ◌||◌, if◌then◌else◌, Option, None, Some, List, [], ◌∷◌, map}
 use Rattle.std.specs.List.{list_any}
 use Rattle.std.specs.Ordering.{int_eq}
 use Rattle.grid.specs.declared.shapes.Point.{Point}
@@ -48,7 +48,7 @@ touch_of t corners = record { phases = phases_of t corners; signs = signs_at t c
 
 -- the same where the corners touch
 abbrev pub touch : Tri → List Point → Option Touch
-touch t corners = cond (touches t corners) (Some (touch_of t corners)) None
+touch t corners = if touches t corners then Some (touch_of t corners) else None
 
 -- the box from lo to hi meets each box that the triangle's bounding box meets, and has each point of the section
 pub record IsReach (t : Tri) (lo hi : Point) : Type 0 where

@@ -2,13 +2,12 @@
 use Rattle.std.proofs.Common.{◌≡◌, ℕ, ◌+◌, ◌*◌, Bool, true, false, cond, Option, None, Some, List, [], ◌∷◌, ◌++◌, replicate, length, refl, ap, sym, ◌∙◌, subst, inl, inr, arith}
 use Rattle.std.specs.Prelude.{unwrap_or}
 use Rattle.std.specs.Map.{lookup}
-use Rattle.std.specs.Str.{bytes_eq}
 use Rattle.std.proofs.lemmas.Bool.{cases_Bool, both_ways}
 use Rattle.std.proofs.lemmas.List.Folds.{sum_by-replicate}
 use Rattle.std.proofs.lemmas.Slice.Eq.{bytes_eq-Decides}
 use Rattle.indexmap.specs.IndexMap.{insert_entry}
 use Rattle.grid.specs.declared.shapes.Face.{Face}
-use Rattle.grid.specs.Simplices.{is_rotation}
+use Rattle.grid.specs.Simplices.{is_rotation, same_triple}
 use Rattle.face_table.specs.Keys.{least_rotation, same_key, faces_of, AreKeys}
 use Rattle.face_table.specs.Occurrences.{occurrences, HaveSameFaces}
 use Rattle.face_table.proofs.LeastLemmas.{least-same, least-rotation, least-again}
@@ -34,7 +33,7 @@ module _ (k : Face) (v : ℕ) where
     where
       by : lookup (same_key q) (insert_entry same_key es k v) ≡ lookup (same_key q) es → (b : Bool) → same_key k e.0 ≡ b → lookup (same_key q) (cond b ((e.0, v) ∷ es) (e ∷ insert_entry same_key es k v)) ≡ lookup (same_key q) (e ∷ es)
       by rest true s =
-          let no : same_key q e.0 ≡ false = ap (λ l. bytes_eq q.0 l) (sym (same_key-is k e.0 s)) ∙ h in
+          let no : same_key q e.0 ≡ false = ap (λ l. same_triple q.0 l) (sym (same_key-is k e.0 s)) ∙ h in
           ap (λ b. cond b (Some v) (lookup (same_key q) es)) no ∙ sym (ap (λ b. cond b (Some e.1) (lookup (same_key q) es)) no)
       by rest false s = ap (λ r. cond (same_key q e.0) (Some e.1) r) rest
 
@@ -83,7 +82,7 @@ occurrences-lookup f k l r (e ∷ es) h = by (occurrences-lookup f k l r es h.2)
     by rest true s =
         let same = same_key-is k e.0 s in
         let yes : cond {A = ℕ} (is_rotation f e.0.0) 1 0 ≡ 1 = ap (λ m. cond (is_rotation f m) 1 0) (sym same) ∙ ap (λ b. cond b 1 0) r in
-        let none : unwrap_or (lookup (same_key k) es) 0 ≡ 0 = ap (λ m. unwrap_or (lookup (λ (q : Face). bytes_eq m q.0) es) 0) same ∙ ap (λ (o : Option ℕ). unwrap_or o 0) h.1 in
+        let none : unwrap_or (lookup (same_key k) es) 0 ≡ 0 = ap (λ m. unwrap_or (lookup (λ (q : Face). same_triple m q.0) es) 0) same ∙ ap (λ (o : Option ℕ). unwrap_or o 0) h.1 in
         omega (arith, occurrences-cons f e es, ap (λ m. e.1 * m) yes, none, rest)
     by rest false s =
         let no : is_rotation f e.0.0 ≡ false = elim (cases_Bool (is_rotation f e.0.0)) [

@@ -4,8 +4,8 @@ use Rattle.std.specs.Cmp.Lexicographic.{slice_cmp}
 use Rattle.std.specs.List.{flat_map}
 use Rattle.std.specs.Map.{lookup}
 use Rattle.std.specs.Ordering.{nat_cmp, ord_min}
-use Rattle.std.specs.Str.{bytes_eq}
 use Rattle.grid.specs.declared.shapes.Face.{Face}
+use Rattle.grid.specs.Simplices.{same_triple}
 
 -- the lesser of two triples, in the order of their numbers
 abbrev pub lesser : List ℕ → List ℕ → List ℕ
@@ -17,7 +17,7 @@ least_rotation (a ∷ b ∷ c ∷ []) = lesser (lesser (a ∷ b ∷ c ∷ []) (b
 least_rotation f = f
 
 abbrev pub same_key : Face → Face → Bool
-same_key f g = bytes_eq f.0 g.0
+same_key f g = same_triple f.0 g.0
 
 -- the faces that are counted, each as often as it is
 abbrev pub faces_of : List (Face × ℕ) → List (List ℕ)

@@ -1,5 +1,5 @@
 -- Whether oriented faces pair, and the first face that does not.
-use Rattle.std.specs.Prelude.{◌≡◌, ℕ, ◌<◌, ◌≤◌, true, cond, ℤ, pos, List, [], length, take, slice_index_or}
+use Rattle.std.specs.Prelude.{◌≡◌, ℕ, ◌<◌, ◌≤◌, true, if◌then◌else◌, ℤ, pos, List, [], length, take, slice_index_or}
 use Rattle.grid.specs.declared.shapes.Point.{Point}
 use Rattle.grid.specs.Boxes.{Side, coordinate, IsOnOneSide}
 use Rattle.grid.specs.Determinants.{point_at}
@@ -63,7 +63,7 @@ IsPairing points l faces paired = IsPairedBy (IsOnOneSide points l) faces paired
 -- ---- any length, below 0 too
 -- the point lies on that side of the box from 0 to z
 abbrev pub LiesOn : ℤ → Side → Point → Type 0
-LiesOn z s p = coordinate s.axis p ≡ cond s.is_far z (pos 0)
+LiesOn z s p = coordinate s.axis p ≡ (if s.is_far then z else pos 0)
 
 -- the corners lie on one side of the box from 0 to z
 pub record LieOnOneSide (points : List Point) (z : ℤ) (f : List ℕ) : Type 0 where

@@ -2,13 +2,13 @@
 use Rattle.std.proofs.Common.{◌≡◌, ◌≢◌, ℕ, ◌+◌, ◌<◌, ◌≤◌, Bool, true, false, cond, Option, Some, None, nat_eq, nat_lt, List, [], length, set, replicate, slice_index_or, refl, sym, ap, ◌∙◌, subst, inl, inr, arith}
 use Rattle.std.specs.Prelude.{AllPairs}
 use Rattle.std.specs.List.{position, position_or_len}
-use Rattle.std.specs.Str.{bytes_eq}
 use Rattle.std.proofs.Math.ListN.{get_or-eq_default, length-replicate}
 use Rattle.std.proofs.lemmas.Bool.{cases_Bool, cases_lt, eqb-true, eqb-false, ltb-true, ltb-false, false≢true}
 use Rattle.std.proofs.lemmas.List.{get_or-replicate, get_or-set_same, get_or-set_other, length-set}
 use Rattle.std.proofs.lemmas.List.Sums.{fails_before_first, passes_at_first}
 use Rattle.std.proofs.lemmas.Slice.Eq.{bytes_eq-Decides}
 use Rattle.grid.specs.declared.shapes.Face.{Face}
+use Rattle.grid.specs.Simplices.{same_triple}
 use Rattle.flood.specs.HalfFaces.{AreOpen, ArePaired, HasMate, IsAmong, IsBelow, facet_at, is_mate, shut_at, triple_at}
 use Rattle.flood.specs.Chains.{IsLast}
 use Rattle.flood.proofs.ReachLemmas.{marked-kept, marked-new, none-marked}
@@ -32,19 +32,19 @@ abbrev pub IsFacetOf : List Face → List ℕ → Option ℕ → Type 0
 IsFacetOf triples t None = (c : ℕ) → c < length triples → triple_at triples c ≢ t
 IsFacetOf triples t (Some c) = (c < length triples) × (triple_at triples c ≡ t)
 
-found : (triples : List Face) (t : Face) (b : Bool) → ((b ≡ true) → position_or_len (λ g. bytes_eq t.0 g.0) triples < length triples) → ((b ≡ false) → length triples ≤ position_or_len (λ g. bytes_eq t.0 g.0) triples) → IsFacetOf triples t.0 (cond b (Some (position_or_len (λ g. bytes_eq t.0 g.0) triples)) None)
+found : (triples : List Face) (t : Face) (b : Bool) → ((b ≡ true) → position_or_len (λ g. same_triple t.0 g.0) triples < length triples) → ((b ≡ false) → length triples ≤ position_or_len (λ g. same_triple t.0 g.0) triples) → IsFacetOf triples t.0 (cond b (Some (position_or_len (λ g. same_triple t.0 g.0) triples)) None)
 found triples t true within past =
-    let p : Face → Bool = λ g. bytes_eq t.0 g.0 in
+    let p : Face → Bool = λ g. same_triple t.0 g.0 in
     let there = within refl in
     (there, sym ((bytes_eq-Decides t.0 (triple_at triples (position_or_len p triples))).0 (passes_at_first p triples (record { 0 = [] }) there)))
 found triples t false within past = λ c below e.
-    let p : Face → Bool = λ g. bytes_eq t.0 g.0 in
+    let p : Face → Bool = λ g. same_triple t.0 g.0 in
     let all = past refl in
     false≢true (sym (fails_before_first p triples c (record { 0 = [] }) (omega arith)) ∙ (bytes_eq-Decides t.0 (triple_at triples c)).1 (sym e))
 
-pub IsFacetOf-from_position : (triples : List Face) (t : Face) → IsFacetOf triples t.0 (position (λ g. bytes_eq t.0 g.0) triples)
+pub IsFacetOf-from_position : (triples : List Face) (t : Face) → IsFacetOf triples t.0 (position (λ g. same_triple t.0 g.0) triples)
 IsFacetOf-from_position triples t =
-    let k = position_or_len (λ (g : Face). bytes_eq t.0 g.0) triples in
+    let k = position_or_len (λ (g : Face). same_triple t.0 g.0) triples in
     found triples t (nat_lt k (length triples)) (λ e. ltb-true k (length triples) e) (λ e. ltb-false k (length triples) e)
 
 pub IsBelow-facet : (triples : List Face) (t : List ℕ) (n : ℕ) (facet : Option ℕ) → n ≡ length triples → IsFacetOf triples t facet → IsBelow n facet

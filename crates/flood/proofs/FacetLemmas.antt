@@ -2,18 +2,17 @@
 use Rattle.std.proofs.Common.{◌≡◌, ◌≢◌, ℕ, ◌+◌, ◌%◌, ◌<◌, ◌≤◌, Bool, true, false, cond, List, [], ◌∷◌, ◌++◌, length, sym, ap, ◌∙◌, subst, inl, inr, refl, arith}
 use Rattle.std.specs.Prelude.{AllPairs}
 use Rattle.std.specs.Bool.{Decides}
-use Rattle.std.specs.Str.{bytes_eq}
 use Rattle.std.proofs.lemmas.Slice.Eq.{bytes_eq-Decides}
 use Rattle.std.proofs.Math.ListN.{get_or-append}
 use Rattle.std.proofs.Math.Seq.{get_or-append_seam}
 use Rattle.std.proofs.lemmas.Bool.{cases_lt}
 use Rattle.std.proofs.lemmas.List.{length_push}
 use Rattle.grid.specs.declared.shapes.Face.{Face}
-use Rattle.grid.specs.Simplices.{faces, rising}
+use Rattle.grid.specs.Simplices.{faces, rising, same_triple}
 use Rattle.flood.specs.HalfFaces.{AreFacets, facet_at, half_face, tet_of, triple_at}
 
 -- equal triples of corners are equal faces
-pub same_face : (f g : Face) → Decides (bytes_eq f.0 g.0) (f ≡ g)
+pub same_face : (f g : Face) → Decides (same_triple f.0 g.0) (f ≡ g)
 same_face f g = (λ e. let same = (bytes_eq-Decides f.0 g.0).0 e in ap (λ (l : List ℕ). record { 0 = l }) same, λ e. (bytes_eq-Decides f.0 g.0).1 (ap (λ (x : Face). x.0) e))
 
 -- the keys of old stand at the same places in new, which has at most one more

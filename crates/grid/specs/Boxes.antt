@@ -1,5 +1,5 @@
 -- The box and its six sides, and points and triangles in it.
-use Rattle.std.specs.Prelude.{◌≡◌, ℕ, Bool, true, cond, ℤ, pos, ◌≤ℤ◌, List, slice_index_or}
+use Rattle.std.specs.Prelude.{◌≡◌, ℕ, Bool, true, if◌then◌else◌, ℤ, pos, ◌≤ℤ◌, List, slice_index_or}
 use Rattle.grid.specs.declared.shapes.Point.{Point}
 use Rattle.grid.specs.declared.shapes.Tri.{Tri}
 use Rattle.grid.specs.Simplices.{has}
@@ -24,7 +24,7 @@ pub record Side : Type 0 where
 
 -- the point lies on that side of the box from 0 to length_of
 abbrev pub IsOn : ℕ → Side → Point → Type 0
-IsOn length_of s p = coordinate s.axis p ≡ cond s.is_far (pos length_of) (pos 0)
+IsOn length_of s p = coordinate s.axis p ≡ (if s.is_far then pos length_of else pos 0)
 
 -- the corners lie on one side of the box
 pub record IsOnOneSide (points : List Point) (length_of : ℕ) (f : List ℕ) : Type 0 where

@@ -1,13 +1,12 @@
 -- A tracked triple of the cut mesh was there before, or has a new corner.
 use Rattle.std.proofs.Common.{◌≡◌, ◌⊎◌, ℕ, zero, suc, true, ◌||◌, List, [], ◌∷◌, map, length, All, refl, sym, ap, ◌∙◌, subst, inl, inr, arith}
 use Rattle.std.specs.List.{Contains, flat_map, AllByRecursion as Each}
-use Rattle.std.specs.Str.{bytes_eq}
 use Rattle.std.proofs.lemmas.Bool.{cases_Bool, or_left, or_right, true≢false}
 use Rattle.std.proofs.lemmas.List.Elements.{All-from_recursion, recursion_from_All}
 use Rattle.std.proofs.lemmas.Map.Views.{Contains-from_any}
 use Rattle.grid.specs.declared.shapes.Tri.{Tri}
 use Rattle.grid.specs.Meshes.{Mesh, IsWellFormed, IsTriple}
-use Rattle.grid.specs.Simplices.{rising, Rises}
+use Rattle.grid.specs.Simplices.{rising, Rises, same_triple}
 use Rattle.mesh_types.specs.declared.cut.Cut.{Cut}
 use Rattle.mesh_types.specs.Phases.{wanted_cuts}
 use Rattle.mesh_types.specs.Refines.{refine, sub_all, is_touched}
@@ -24,7 +23,7 @@ OldOrNew tracked n f = (is_among f tracked ≡ true) ⊎ HasNewCorner n f
 
 all-among : (xs : List (List ℕ)) → Each (λ x. is_among x xs ≡ true) xs
 all-among [] = tt
-all-among (x ∷ xs) = (or_left (bytes_eq x x) (is_among x xs) (equal_to x x refl), Each-weaker (λ y. is_among y xs ≡ true) (λ y. is_among y (x ∷ xs) ≡ true) (λ y h. or_right (bytes_eq y x) (is_among y xs) h) xs (all-among xs))
+all-among (x ∷ xs) = (or_left (same_triple x x) (is_among x xs) (equal_to x x refl), Each-weaker (λ y. is_among y xs ≡ true) (λ y. is_among y (x ∷ xs) ≡ true) (λ y h. or_right (same_triple y x) (is_among y xs) h) xs (all-among xs))
 
 both : (P Q : List ℕ → Type 0) (xs : List (List ℕ)) → Each P xs → Each Q xs → Each (λ x. P x × Q x) xs
 both P Q [] h k = tt
@@ -48,7 +47,7 @@ fresh-refine m es w =
 
 each-at : (P : List ℕ → Type 0) (xs : List (List ℕ)) (f : List ℕ) → Each P xs → is_among f xs ≡ true → P f
 each-at P [] f h e = absurd (true≢false (sym e))
-each-at P (x ∷ xs) f h e = elim (cases_Bool (bytes_eq f x)) [
+each-at P (x ∷ xs) f h e = elim (cases_Bool (same_triple f x)) [
   | inl g ↦ subst P (sym (equal_from f x g)) h.0
   | inr g ↦ each-at P xs f h.1 (sym (ap (λ b. b || is_among f xs) g) ∙ e)
 ]

@@ -1,7 +1,6 @@
 -- The tracked faces with a new corner, among all tracked faces.
 use Rattle.std.proofs.Common.{◌≡◌, ℕ, ◌+◌, ◌<◌, ◌≤◌, Bool, true, false, ◌&&◌, ◌||◌, cond, nat_eq, nat_le, nat_lt, Option, None, Some, MatchOption, List, [], ◌∷◌, ◌++◌, All, filter, refl, sym, ap, ap₂, ◌∙◌, subst, inl, inr, arith}
 use Rattle.std.specs.List.{list_any, AllByRecursion as Each}
-use Rattle.std.specs.Str.{bytes_eq}
 use Rattle.std.proofs.lemmas.Bool.{cases_Bool, or_cases}
 use Rattle.std.proofs.lemmas.Bool.Decides.{nat_tests}
 use Rattle.std.proofs.lemmas.List.Elements.{All-from_recursion, recursion_from_All}
@@ -10,7 +9,7 @@ use Rattle.grid.specs.declared.shapes.Face.{Face}
 use Rattle.grid.specs.declared.shapes.Point.{Point}
 use Rattle.grid.specs.declared.shapes.Tri.{Tri}
 use Rattle.grid.specs.Meshes.{IsTriple, Ordered}
-use Rattle.grid.specs.Simplices.{has}
+use Rattle.grid.specs.Simplices.{has, same_triple}
 use Rattle.grid.specs.Views.{triples_of}
 use Rattle.mesh_types.specs.Insertion.{NamesFirst}
 use Rattle.mesh_types.specs.Phases.{points_of}
@@ -91,7 +90,7 @@ pub FoundTo-more : (keys : Keys) (n k : ℕ) (fs at more new : List Face) → n 
 FoundTo-more keys n k fs at more new l e same f h x =
     let all : Bool = is_among x (triples_of (faces_in keys)) in
     ap (λ (gs : List Face). is_among x (triples_of gs)) (f ∙ ap (λ (gs : List Face). fs ++ gs) (same ∙ e))
-    ∙ (ap (is_among x) (triples-append fs (faces_at keys k)) ∙ list_any-append (bytes_eq x) (triples_of fs) (triples_of (faces_at keys k))
+    ∙ (ap (is_among x) (triples-append fs (faces_at keys k)) ∙ list_any-append (same_triple x) (triples_of fs) (triples_of (faces_at keys k))
     ∙ (ap₂ (λ (a b : Bool). a || b) (h x) (ap (is_among x) (triples-filter (λ t. has t k) (faces_in keys)) ∙ among-filter (λ t. has t k) x (triples_of (faces_in keys)))
     ∙ (spread all (is_between n k x) (has x k) ∙ ap (λ (b : Bool). all && b) (sym (more-between n k x l)))))
 
@@ -109,7 +108,7 @@ all-between n m k (u ∷ x) l h = ap₂ (λ (a b : Bool). a || b) (same-past n k
 
 among-each : (P : List ℕ → Type 0) (x : List ℕ) (ts : List (List ℕ)) → is_among x ts ≡ true → Each P ts → P x
 among-each P x [] e h = cc
-among-each P x (t ∷ ts) e h = elim (or_cases (bytes_eq x t) (is_among x ts) e) [
+among-each P x (t ∷ ts) e h = elim (or_cases (same_triple x t) (is_among x ts) e) [
   | inl g ↦ subst P (sym (equal_from x t g)) h.0
   | inr g ↦ among-each P x ts g h.1
 ]

@@ -12,11 +12,11 @@ use Rattle.mesh_types.specs.Insertion.{IsUncovered}
 use Rattle.mesh_types.specs.Phases.{cut_by}
 use Rattle.mesh_store.specs.Changes.{IsGrown}
 use Rattle.mesh_store.specs.Parts.{Parts, StoreView, mesh_in, live_tets}
-use Rattle.mesh_store.specs.Sound.{IsSound}
+use Rattle.mesh_store.specs.Sound.{IsSoundStore}
 use Rattle.grid.specs.declared.shapes.Point.{Point}
 use Rattle.grid.specs.Limits.{largest_side}
 use Rattle.insertion.specs.Bare.{IsBare, IsKept, HasNewCorner}
-use Rattle.insertion.specs.Progress.{start_of, closed, IsOpenFrom, IsCut}
+use Rattle.insertion.specs.Progress.{start_of, closed, IsOpenFrom, IsCutBy}
 use Rattle.cutting_rule.proofs.ForCallers.{all-has}
 
 grown-refl : (m : Parts) → IsGrown m m
@@ -31,12 +31,12 @@ start-is start side v h = ap (λ o. unwrap_or o v.parts) h.begin
 pub closed-old : (old : StoreView) → old.at_begin ≡ None → closed old.parts old.side ≡ old
 closed-old old e = λ i. record { parts = old.parts; at_begin = sym e i; side = old.side }
 
-pub cut-is : (old begun now : StoreView) (t : Tri) → begun ≡ record old { at_begin = Some old.parts } → IsSound old.side old.parts → All (IsPositive old.parts.points) (live_tets old.parts.slots) → IsOpenFrom old.parts old.side now → IsSound now.side now.parts → mesh_in now.parts ≡ cut_by (mesh_in begun.parts) t → IsWithinLimits (mesh_in now.parts) → ¬ IsDegenerate t → IsTriInBox largest_side t → IsCut t now
+pub cut-is : (old begun now : StoreView) (t : Tri) → begun ≡ record old { at_begin = Some old.parts } → IsSoundStore old.side old.parts → All (IsPositive old.parts.points) (live_tets old.parts.slots) → IsOpenFrom old.parts old.side now → IsSoundStore now.side now.parts → mesh_in now.parts ≡ cut_by (mesh_in begun.parts) t → IsWithinLimits (mesh_in now.parts) → ¬ IsDegenerate t → IsTriInBox largest_side t → IsCutBy t now
 cut-is old begun now t b sound positive h sound_now mesh within area tri_in =
     let s : start_of now ≡ old.parts = start-is old.parts old.side now h in
     record {
       open_from = record { begin = h.begin ∙ ap Some (sym s); side_is = refl; grown = subst (λ p. IsGrown p now.parts) (sym s) h.grown };
-      sound = subst (λ p. IsSound now.side p) (sym s) (subst (λ z. IsSound z old.parts) (sym h.side_is) sound);
+      sound = subst (λ p. IsSoundStore now.side p) (sym s) (subst (λ z. IsSoundStore z old.parts) (sym h.side_is) sound);
       sound_now = sound_now;
       positive = subst (λ (p : Parts). All (IsPositive p.points) (live_tets p.slots)) (sym s) positive;
       mesh = mesh ∙ ap (λ (p : Parts). cut_by (mesh_in p) t) (ap (λ (v : StoreView). v.parts) b ∙ sym s);

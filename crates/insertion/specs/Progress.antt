@@ -9,7 +9,7 @@ use Rattle.grid.specs.Limits.{largest_side}
 use Rattle.mesh_types.specs.Phases.{cut_by}
 use Rattle.mesh_store.specs.Changes.{IsGrown}
 use Rattle.mesh_store.specs.Parts.{Parts, StoreView, mesh_in, live_tets}
-use Rattle.mesh_store.specs.Sound.{IsSound}
+use Rattle.mesh_store.specs.Sound.{IsSoundStore}
 
 -- the parts at begin
 abbrev pub start_of : StoreView → Parts
@@ -26,10 +26,10 @@ pub record IsOpenFrom (start : Parts) (side : ℤ) (v : StoreView) : Type 0 wher
   pub grown : IsGrown start v.parts
 
 -- a store that was cut by a triangle since its begin, where it had positive tetrahedra
-pub record IsCut (t : Tri) (v : StoreView) : Type 0 where
+pub record IsCutBy (t : Tri) (v : StoreView) : Type 0 where
   pub open_from : IsOpenFrom (start_of v) v.side v
-  pub sound : IsSound v.side (start_of v)
-  pub sound_now : IsSound v.side v.parts
+  pub sound : IsSoundStore v.side (start_of v)
+  pub sound_now : IsSoundStore v.side v.parts
   pub positive : All (IsPositive (start_of v).points) (live_tets (start_of v).slots)
   pub mesh : mesh_in v.parts ≡ cut_by (mesh_in (start_of v)) t
   pub within : IsWithinLimits (mesh_in v.parts)

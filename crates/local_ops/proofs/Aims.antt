@@ -16,7 +16,7 @@ use Rattle.mesh_types.specs.Results.{midpoint_floored, middle_cut, target, split
 use Rattle.mesh_types.proofs.ForCallers.{Each-passed, Each-weaker, flat_map-none}
 use Rattle.tet_slots.specs.declared.slot.Slot.{Slot}
 use Rattle.mesh_store.specs.Parts.{Parts, live_tets, mesh_in}
-use Rattle.mesh_store.specs.Sound.{IsSound}
+use Rattle.mesh_store.specs.Sound.{IsSoundStore}
 use Rattle.mesh_store.proofs.ForCallers.{tets-numbers}
 use Rattle.local_ops.specs.Attempts.{may_go}
 use Rattle.local_ops.specs.Foreseen.{IsAim, near_tets, pieces_of}
@@ -38,7 +38,7 @@ flat-same f g (x ∷ xs) h = ap₂ ◌++◌ h.0 (flat-same f g xs h.1)
 pub near-is : (t : Try) (slots : List Slot) → near_tets t slots ≡ filter (is_near t) (live_tets slots)
 near-is t slots = tets-numbers (may_go t) (is_near t) (may_go-is t) [] slots
 
-module _ (side : ℤ) (m : Parts) (sound : IsSound side m) where
+module _ (side : ℤ) (m : Parts) (sound : IsSoundStore side m) where
   abbrev l : ℕ
   l = nat_abs side
 

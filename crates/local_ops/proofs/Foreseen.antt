@@ -20,7 +20,7 @@ use Rattle.mesh_types.specs.Results.{Result, result_of}
 use Rattle.mesh_types.specs.Verdicts.{Setting, Passes, energy_at, largest}
 use Rattle.mesh_types.proofs.ForCallers.{Cornered, Each-filter, Each-weaker, longer_result, IsLonger, cornered_tets}
 use Rattle.mesh_store.specs.Parts.{Parts, live_tets, mesh_in}
-use Rattle.mesh_store.specs.Sound.{IsSound}
+use Rattle.mesh_store.specs.Sound.{IsSoundStore}
 use Rattle.mesh_store.proofs.ForCallers.{well_formed}
 use Rattle.tet_slots.specs.Searches.{numbers_of}
 use Rattle.local_ops.specs.Attempts.{may_go}
@@ -69,7 +69,7 @@ energy-longer points points' g x t =
     other : (c n : ℕ) → c < n → c ≢ n
     other c n l e = omega arith
 
-module _ (triangles : List Tri) (e : ℕ) (side : ℤ) (parts : Parts) (t : Try) (p : Point) (sound : IsSound side parts) (aim : IsAim (nat_abs side) parts t p) where
+module _ (triangles : List Tri) (e : ℕ) (side : ℤ) (parts : Parts) (t : Try) (p : Point) (sound : IsSoundStore side parts) (aim : IsAim (nat_abs side) parts t p) where
   abbrev s : Setting
   s = setting triangles e side
 

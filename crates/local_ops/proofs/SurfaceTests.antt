@@ -2,12 +2,11 @@
 use Rattle.std.proofs.Common.{◌≡◌, ℕ, ◌<◌, Bool, true, false, not, ◌||◌, ◌&&◌, List, length, refl, sym, ◌∙◌, inl, inr, arith}
 use Rattle.std.specs.Prelude.{nat_eq, nat_lt, count_by}
 use Rattle.std.specs.List.{list_all, list_any}
-use Rattle.std.specs.Str.{bytes_eq}
 use Rattle.std.proofs.lemmas.Bool.{cases_Bool, and_parts, and_from, ltb-true, ltb-false, eqb-true, eqb-false, true≢false}
 use Rattle.std.proofs.lemmas.List.Sums.{length-filter}
 use Rattle.grid.specs.Meshes.{Mesh}
 use Rattle.grid.specs.Rims.{triples_at}
-use Rattle.grid.specs.Simplices.{has, replaced, rising}
+use Rattle.grid.specs.Simplices.{has, replaced, rising, same_triple}
 use Rattle.mesh_types.specs.Verdicts.{KeepsSurface}
 use Rattle.mesh_types.proofs.ForCallers.{Among, among-filter}
 use Rattle.local_ops.specs.Surface.{at_point, is_moved_apart}
@@ -37,7 +36,7 @@ module _ (m : Mesh) (u v : ℕ) where
     apart = λ t c p q i.
         let b = true-at (is_moved_apart m.tracked u v) (at_point u m.tracked) t a (among-filter (λ t. has t u) m.tracked t (contains-among m.tracked t c) p) in
         let listed = among-listed m.tracked (rising (replaced u v t)) (contains-among m.tracked (rising (replaced u v t)) i) in
-        clash (has t v) (list_any (bytes_eq (rising (replaced u v t))) m.tracked) q listed b;
+        clash (has t v) (list_any (same_triple (rising (replaced u v t))) m.tracked) q listed b;
   }
     where
       positive : (n : ℕ) → 0 < n → nat_lt 0 n ≡ true
@@ -62,5 +61,5 @@ module _ (m : Mesh) (u v : ℕ) where
       apart : (t : List ℕ) → Among (at_point u m.tracked) t → is_moved_apart m.tracked u v t ≡ true
       apart t i =
           let b = filter-both (λ t. has t u) m.tracked t i in
-          either (has t v) (list_any (bytes_eq (rising (replaced u v t))) m.tracked)
+          either (has t v) (list_any (same_triple (rising (replaced u v t))) m.tracked)
           (λ p q. k.apart t (among-contains m.tracked t b.0) b.1 p (among-contains m.tracked (rising (replaced u v t)) (listed-among m.tracked (rising (replaced u v t)) q)))

@@ -14,7 +14,7 @@ use Rattle.tet_slots.specs.declared.slot.Slot.{Slot}
 use Rattle.tet_slots.specs.Searches.{has_edge, numbers_of}
 use Rattle.mesh_store.specs.Exchanges.{has_either, tet_in}
 use Rattle.mesh_store.specs.Parts.{Parts, live_tets, tracked_in, mesh_in}
-use Rattle.mesh_store.specs.Sound.{IsSound}
+use Rattle.mesh_store.specs.Sound.{IsSoundStore}
 use Rattle.mesh_store.proofs.ForCallers.{IsFirst, face-first, face-second, face-corners}
 use Rattle.local_ops.specs.Attempts.{PassesBelow}
 use Rattle.local_ops.specs.Measures.{is_positive}
@@ -61,7 +61,7 @@ module _ (m : Parts) (a b c : ℕ) (s : Sides) (h : AreSides m.slots a b c s) wh
   pub points-same : (face_swap (mesh_in m) a b c).mesh.points ≡ m.points
   points-same = ap (λ (r : Result). r.mesh.points) swapped-is ∙ append-nil m.points
 
-  module _ (side : ℤ) (sound : IsSound side m) where
+  module _ (side : ℤ) (sound : IsSoundStore side m) where
     pub three-corners : (u : ℕ) → IsTet (length m.points) (replaced u s.apex x)
     three-corners u = face-corners a b c m s.first first-side s.second second-side s.apex h.apex side sound u
 

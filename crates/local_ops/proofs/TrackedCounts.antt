@@ -3,12 +3,11 @@ use Rattle.std.proofs.Common.{◌≡◌, ℕ, Bool, false, ◌||◌, ◌&&◌, �
 use Rattle.std.specs.List.{IsDistinct, AllByRecursion as Each}
 use Rattle.std.specs.Map.{keys_of}
 use Rattle.std.specs.Prelude.{count_by}
-use Rattle.std.specs.Str.{bytes_eq}
 use Rattle.std.proofs.lemmas.Bool.{cases_Bool, or_parts, true≢false}
 use Rattle.grid.proofs.ForCallers.{count_by-cons_yes, count_by-cons_no}
 use Rattle.grid.specs.Meshes.{is_below}
 use Rattle.grid.specs.Rims.{IsRim, triples_at}
-use Rattle.grid.specs.Simplices.{has}
+use Rattle.grid.specs.Simplices.{has, same_triple}
 use Rattle.grid.specs.Views.{triples_of}
 use Rattle.mesh_types.specs.Tracking.{place, in_order_once}
 use Rattle.mesh_types.proofs.ForCallers.{below_or, is_among, differ_from, is_among-in_order_once}
@@ -38,7 +37,7 @@ module _ (p : List ℕ → Bool) where
   count-place : (x : List ℕ) (ys : List (List ℕ)) → is_among x ys ≡ false → count_by p (place x ys) ≡ count_by p (x ∷ ys)
   count-place x [] h = refl
   count-place x (y ∷ ys) h =
-      let d = or_parts (bytes_eq x y) (is_among x ys) h in
+      let d = or_parts (same_triple x y) (is_among x ys) h in
       elim (cases_Bool (is_below x y)) [
         | inl e ↦ rw e refl
         | inr e ↦ elim (cases_Bool (is_below y x)) [
@@ -47,11 +46,11 @@ module _ (p : List ℕ → Bool) where
         ]
       ]
 
-  none-among : (x : List ℕ) (ys : List (List ℕ)) → Each (λ y. bytes_eq x y ≡ false) ys → is_among x ys ≡ false
+  none-among : (x : List ℕ) (ys : List (List ℕ)) → Each (λ y. same_triple x y ≡ false) ys → is_among x ys ≡ false
   none-among x [] h = refl
   none-among x (y ∷ ys) h = ap (λ (b : Bool). b || is_among x ys) h.0 ∙ none-among x ys h.1
 
-  pub count-in_order_once : (ts : List (List ℕ)) → IsDistinct bytes_eq ts → count_by p (in_order_once ts) ≡ count_by p ts
+  pub count-in_order_once : (ts : List (List ℕ)) → IsDistinct same_triple ts → count_by p (in_order_once ts) ≡ count_by p ts
   unfolding IsDistinct
   count-in_order_once [] d = refl
   count-in_order_once (x ∷ ts) d =

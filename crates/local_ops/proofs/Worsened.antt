@@ -18,7 +18,7 @@ use Rattle.mesh_types.specs.Verdicts.{IsBetter, IsSingle, IsVerdict, Setting, en
 use Rattle.mesh_types.proofs.ForCallers.{Among, among-all, count-append, count-same, count-one, among-without, without-total, HaveSameSums}
 use Rattle.mesh_store.specs.Exchanges.{tet_in}
 use Rattle.mesh_store.specs.Parts.{Parts, live_tets, mesh_in}
-use Rattle.mesh_store.specs.Sound.{IsSound}
+use Rattle.mesh_store.specs.Sound.{IsSoundStore}
 use Rattle.mesh_store.proofs.ForCallers.{outside-is}
 use Rattle.local_ops.specs.Attempts.{PassesBelow}
 use Rattle.local_ops.specs.Measures.{corners_at, has_single_faces, is_positive}
@@ -135,7 +135,7 @@ module _ (m : Parts) (a b c : ℕ) (s : Sides) (h : AreSides m.slots a b c s) (o
       let below : largest (map e three) < most = subst (λ n. n < most) new (subst (λ n. largest (map (energy_at r.mesh.points) r.fresh) < n) (old ∙ two) k) in
       true≢false (sym (below-largest e most three below) ∙ w.worse)
 
-  module _ (side : ℤ) (sound : IsSound side m) (triangles : List Tri) (ep : ℕ) where
+  module _ (side : ℤ) (sound : IsSoundStore side m) (triangles : List Tri) (ep : ℕ) where
     abbrev t : Setting
     t = setting triangles ep side
 

@@ -16,7 +16,7 @@ use Rattle.mesh_types.specs.Verdicts.{Setting, Passes, place_in_order, IsVerdict
 use Rattle.mesh_types.specs.Journals.{AllPositive}
 use Rattle.mesh_store.specs.Changes.{IsGrown, AddedAreLive}
 use Rattle.mesh_store.specs.Parts.{Parts, StoreView, mesh_in}
-use Rattle.mesh_store.specs.Sound.{IsSound}
+use Rattle.mesh_store.specs.Sound.{IsSoundStore}
 use Rattle.local_ops.specs.declared.before.Before.{Before}
 
 -- the tests before a place in the order are passed
@@ -68,7 +68,7 @@ pub record IsChanged (t : Try) (old new : StoreView) : Type 0 where
 -- a try that can be made was made on the mesh at begin, whose tetrahedra are positive
 pub record IsMade (t : Try) (v : StoreView) : Type 0 where
   pub opened : IsSome v.at_begin
-  pub sound : IsSound v.side (start_of v)
+  pub sound : IsSoundStore v.side (start_of v)
   pub candidate : is_candidate (mesh_in (start_of v)).tets t ≡ true
   pub positive : AllPositive (mesh_in (start_of v))
   pub mesh : mesh_in v.parts ≡ (result_of (nat_abs v.side) (mesh_in (start_of v)) t).mesh

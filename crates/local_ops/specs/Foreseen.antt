@@ -1,5 +1,5 @@
 -- What a try would make, as it is told from the mesh before.
-use Rattle.std.specs.Prelude.{◌≡◌, ℕ, Bool, ◌&&◌, cond, nat_eq, nat_lt, ℤ, pos, List, [], ◌∷◌, ◌++◌, map, length}
+use Rattle.std.specs.Prelude.{◌≡◌, ℕ, Bool, ◌&&◌, if◌then◌else◌, nat_eq, nat_lt, ℤ, pos, List, [], ◌∷◌, ◌++◌, map, length}
 use Rattle.std.specs.List.{flat_map, list_all}
 use Rattle.grid.specs.declared.shapes.Point.{Point}
 use Rattle.grid.specs.Boxes.{IsInBox}
@@ -24,7 +24,7 @@ use Rattle.local_ops.specs.declared.foreseeing.Sight.TheVariants.{Refused, Bette
 -- ---- tetrahedra with a corner u at the point p
 -- the point of a corner
 abbrev pub moved_at : List Point → ℕ → Point → ℕ → Point
-moved_at points u p c = cond (nat_eq c u) p (point_at points c)
+moved_at points u p c = if nat_eq c u then p else point_at points c
 
 abbrev pub det_with : List Point → ℕ → Point → List ℕ → ℤ
 det_with points u p (a ∷ b ∷ c ∷ d ∷ []) = det (moved_at points u p a) (moved_at points u p b) (moved_at points u p c) (moved_at points u p d)
@@ -45,7 +45,7 @@ points_with t p points = points
 abbrev pub pieces_of : Try → ℕ → List ℕ → List (List ℕ)
 pieces_of (Split u v) n x = replaced u n x ∷ replaced v n x ∷ []
 pieces_of (Shift u way) n x = replaced u n x ∷ []
-pieces_of (Collapse u v) n x = cond (has x v) [] (replaced u v x ∷ [])
+pieces_of (Collapse u v) n x = if has x v then [] else replaced u v x ∷ []
 pieces_of t n x = []
 
 -- the point that u goes to is that of v

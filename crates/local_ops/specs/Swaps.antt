@@ -1,5 +1,5 @@
 -- The two sides of a face that is swapped.
-use Rattle.std.specs.Prelude.{◌≡◌, ℕ, Bool, true, false, ◌&&◌, ◌||◌, nat_lt, cond, List, [], ◌∷◌, count_by, Option, None, Some}
+use Rattle.std.specs.Prelude.{◌≡◌, ℕ, Bool, true, false, ◌&&◌, ◌||◌, nat_lt, if◌then◌else◌, List, [], ◌∷◌, count_by, Option, None, Some}
 use Rattle.std.specs.List.{find, list_all}
 use Rattle.grid.specs.declared.shapes.Point.{Point}
 use Rattle.grid.specs.Simplices.{has, count, faces, is_rotation, replaced}
@@ -40,7 +40,7 @@ are_new_once x y new d o = list_all (has_new_once x y new d o) new
 
 -- the energies are below the larger one of x and y
 abbrev pub are_below : List Point → (x y : List ℕ) → List (List ℕ) → Bool
-are_below points x y new = list_all (λ z. nat_lt (energy_at points z) (cond (nat_lt (energy_at points x) (energy_at points y)) (energy_at points y) (energy_at points x))) new
+are_below points x y new = list_all (λ z. nat_lt (energy_at points z) (if nat_lt (energy_at points x) (energy_at points y) then energy_at points y else energy_at points x)) new
 
 -- no tetrahedron has the new edge from d, the new faces occur once, and the energies do not fall
 pub record IsSeenWorse (slots : List Slot) (points : List Point) (a b c : ℕ) (s : Sides) : Type 0 where

@@ -1,7 +1,7 @@
 ghost use Rattle.grid.specs.Limits.{most_epsilon};
 ghost use Rattle.local_ops.specs.Attempts.{IsBefore, IsMade, PassesBelow, may_go, start_of};
 ghost use Rattle.mesh_store.specs.Parts.{mesh_in};
-ghost use Rattle.mesh_store.specs.Sound.{IsSound};
+ghost use Rattle.mesh_store.specs.Sound.{IsSoundStore};
 ghost use Rattle.mesh_types.specs.Journals.{AllPositive, NoFaceTwice, StaysSound, after, line, setting};
 ghost use Rattle.mesh_types.specs.Tries.{is_candidate};
 ghost use Rattle.mesh_types.specs.Verdicts.{IsVerdict};
@@ -86,7 +86,7 @@ fn try_out(
     once: bool,
 ) -> Result<Verdict, Memory>
     requires closed { store.old.at_begin ≡ None }
-    requires sound { IsSound store.old.side store.old.parts }
+    requires sound { IsSoundStore store.old.side store.old.parts }
     requires candidate { is_candidate (mesh_in store.old.parts).tets attempt ≡ true }
     requires positive { AllPositive (mesh_in store.old.parts) }
     requires once { IsTrue once → NoFaceTwice (mesh_in store.old.parts) }
@@ -114,7 +114,7 @@ fn make(
     once: bool,
 ) -> Result<Verdict, Memory>
     requires closed { store.old.at_begin ≡ None }
-    requires sound { IsSound store.old.side store.old.parts }
+    requires sound { IsSoundStore store.old.side store.old.parts }
     requires candidate { is_candidate (mesh_in store.old.parts).tets attempt ≡ true }
     requires positive { AllPositive (mesh_in store.old.parts) }
     requires once { IsTrue once → NoFaceTwice (mesh_in store.old.parts) }
@@ -145,7 +145,7 @@ fn make_so(
     better: bool,
 ) -> Result<Verdict, Memory>
     requires closed { store.old.at_begin ≡ None }
-    requires sound { IsSound store.old.side store.old.parts }
+    requires sound { IsSoundStore store.old.side store.old.parts }
     requires candidate { is_candidate (mesh_in store.old.parts).tets attempt ≡ true }
     requires positive { AllPositive (mesh_in store.old.parts) }
     requires e_most { e ≤ most_epsilon }

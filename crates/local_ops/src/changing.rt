@@ -2,7 +2,7 @@
 ghost use Rattle.grid.specs.Meshes.{IsWithinLimits};
 ghost use Rattle.local_ops.specs.Attempts.{IsChanged};
 ghost use Rattle.mesh_store.specs.Parts.{mesh_in};
-ghost use Rattle.mesh_store.specs.Sound.{IsSound};
+ghost use Rattle.mesh_store.specs.Sound.{IsSoundStore};
 ghost use Rattle.mesh_types.specs.Results.{result_of};
 ghost use Rattle.mesh_types.specs.Tries.{is_candidate};
 ghost use Rattle.std.specs.Prelude.{Err, None, OnErr, OnOk, nat_abs, true, ◌≡◌};
@@ -16,7 +16,7 @@ use std::alloc::Global;
 /// is as it was.
 pub(crate) fn change(alloc: Global, store: &mut Store, attempt: Try) -> Result<(), StoreIssue>
     requires closed { store.old.at_begin ≡ None }
-    requires sound { IsSound store.old.side store.old.parts }
+    requires sound { IsSoundStore store.old.side store.old.parts }
     requires candidate { is_candidate (mesh_in store.old.parts).tets attempt ≡ true }
     ensures ok { OnOk result (IsChanged attempt store.old store.new) }
     ensures full { result ≡ Err StoreIssue.Full → ¬ IsWithinLimits (result_of (nat_abs store.old.side) (mesh_in store.old.parts) attempt).mesh }
@@ -33,7 +33,7 @@ pub(crate) fn change(alloc: Global, store: &mut Store, attempt: Try) -> Result<(
 
 fn split(store: &mut Store, u: u32, v: u32) -> Result<(), StoreIssue>
     requires closed { store.old.at_begin ≡ None }
-    requires sound { IsSound store.old.side store.old.parts }
+    requires sound { IsSoundStore store.old.side store.old.parts }
     requires candidate { is_candidate (mesh_in store.old.parts).tets (Try.Split u v) ≡ true }
     ensures ok { OnOk result (IsChanged (Try.Split u v) store.old store.new) }
     ensures full { result ≡ Err StoreIssue.Full → ¬ IsWithinLimits (result_of (nat_abs store.old.side) (mesh_in store.old.parts) (Try.Split u v)).mesh }
@@ -46,7 +46,7 @@ fn split(store: &mut Store, u: u32, v: u32) -> Result<(), StoreIssue>
 
 fn shift(alloc: Global, store: &mut Store, u: u32, way: u8) -> Result<(), StoreIssue>
     requires closed { store.old.at_begin ≡ None }
-    requires sound { IsSound store.old.side store.old.parts }
+    requires sound { IsSoundStore store.old.side store.old.parts }
     requires candidate { is_candidate (mesh_in store.old.parts).tets (Try.Shift u way) ≡ true }
     ensures ok { OnOk result (IsChanged (Try.Shift u way) store.old store.new) }
     ensures full { result ≡ Err StoreIssue.Full → ¬ IsWithinLimits (result_of (nat_abs store.old.side) (mesh_in store.old.parts) (Try.Shift u way)).mesh }
@@ -59,7 +59,7 @@ fn shift(alloc: Global, store: &mut Store, u: u32, way: u8) -> Result<(), StoreI
 
 fn collapse(store: &mut Store, u: u32, v: u32) -> Result<(), StoreIssue>
     requires closed { store.old.at_begin ≡ None }
-    requires sound { IsSound store.old.side store.old.parts }
+    requires sound { IsSoundStore store.old.side store.old.parts }
     requires candidate { is_candidate (mesh_in store.old.parts).tets (Try.Collapse u v) ≡ true }
     ensures ok { OnOk result (IsChanged (Try.Collapse u v) store.old store.new) }
     ensures full { result ≡ Err StoreIssue.Full → ¬ IsWithinLimits (result_of (nat_abs store.old.side) (mesh_in store.old.parts) (Try.Collapse u v)).mesh }

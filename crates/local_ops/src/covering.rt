@@ -3,6 +3,7 @@ ghost use Rattle.grid.specs.Boxes.{IsInBox, IsTriInBox};
 ghost use Rattle.grid.specs.Limits.{largest_side, most_epsilon};
 ghost use Rattle.grid.specs.Meshes.{IsTriple};
 ghost use Rattle.grid.specs.Views.{triples_of};
+ghost use Rattle.grid.specs.Simplices.{same_triple};
 ghost use Rattle.local_ops.specs.Covering.{IsFine};
 ghost use Rattle.local_ops.specs.Surface.{at_point};
 ghost use Rattle.mesh_store.specs.Parts.{mesh_in};
@@ -10,7 +11,6 @@ ghost use Rattle.mesh_types.specs.Certificates.{HasCertificate};
 ghost use Rattle.mesh_types.specs.Verdicts.{face_at};
 ghost use Rattle.std.specs.List.{list_any};
 ghost use Rattle.std.specs.Prelude.{All, IfOk, IsTrue, length, ◌<◌, ◌≡◌, ◌≤◌, ◌↔◌};
-ghost use Rattle.std.specs.Str.{bytes_eq};
 
 use crate::before::Before;
 use crate::surface::faces_at;
@@ -61,7 +61,7 @@ fn is_fine(slots: &Slots, env: &Envelope, e: u32, old: &[Face], face: Face) -> b
 }
 
 fn is_listed(faces: &[Face], face: Face) -> bool
-    ensures { result ≡ list_any (bytes_eq face.0) (triples_of faces.now) }
+    ensures { result ≡ list_any (same_triple face.0) (triples_of faces.now) }
 {
     for other in faces {
         if face == *other {

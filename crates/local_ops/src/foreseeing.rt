@@ -4,7 +4,7 @@ ghost use Rattle.grid.specs.declared.shapes.Tri.{Tri};
 ghost use Rattle.local_ops.specs.Attempts.{may_go};
 ghost use Rattle.local_ops.specs.Foreseen.{IsAim, IsSight};
 ghost use Rattle.mesh_store.specs.Parts.{mesh_in};
-ghost use Rattle.mesh_store.specs.Sound.{IsSound};
+ghost use Rattle.mesh_store.specs.Sound.{IsSoundStore};
 ghost use Rattle.mesh_types.specs.Journals.{AllPositive, NoFaceTwice, setting};
 ghost use Rattle.mesh_types.specs.Results.{result_of};
 ghost use Rattle.mesh_types.specs.Tries.{is_candidate};
@@ -43,7 +43,7 @@ pub(crate) fn foreseen(
     near: &[u32],
     once: bool,
 ) -> Result<Sight, Memory>
-    requires sound { IsSound store.now.side store.now.parts }
+    requires sound { IsSoundStore store.now.side store.now.parts }
     requires candidate { is_candidate (mesh_in store.now.parts).tets attempt ≡ true }
     requires positive { AllPositive (mesh_in store.now.parts) }
     requires near { near.now ≡ numbers_of (may_go attempt) 0 store.now.parts.slots }
@@ -60,7 +60,7 @@ pub(crate) fn foreseen(
 }
 
 fn split_seen(store: &Store, u: u32, v: u32, near: &[u32], once: bool) -> Sight
-    requires sound { IsSound store.now.side store.now.parts }
+    requires sound { IsSoundStore store.now.side store.now.parts }
     requires candidate { is_candidate (mesh_in store.now.parts).tets (Try.Split u v) ≡ true }
     requires positive { AllPositive (mesh_in store.now.parts) }
     requires near { near.now ≡ numbers_of (may_go (Try.Split u v)) 0 store.now.parts.slots }
@@ -79,7 +79,7 @@ fn shift_seen(
     near: &[u32],
     once: bool,
 ) -> Result<Sight, Memory>
-    requires sound { IsSound store.now.side store.now.parts }
+    requires sound { IsSoundStore store.now.side store.now.parts }
     requires candidate { is_candidate (mesh_in store.now.parts).tets (Try.Shift u way) ≡ true }
     requires positive { AllPositive (mesh_in store.now.parts) }
     requires near { near.now ≡ numbers_of (may_go (Try.Shift u way)) 0 store.now.parts.slots }
@@ -98,7 +98,7 @@ fn collapse_seen(
     near: &[u32],
     once: bool,
 ) -> Result<Sight, Memory>
-    requires sound { IsSound store.now.side store.now.parts }
+    requires sound { IsSoundStore store.now.side store.now.parts }
     requires candidate { is_candidate (mesh_in store.now.parts).tets (Try.Collapse u v) ≡ true }
     requires positive { AllPositive (mesh_in store.now.parts) }
     requires near { near.now ≡ numbers_of (may_go (Try.Collapse u v)) 0 store.now.parts.slots }
@@ -127,7 +127,7 @@ fn face_swap_seen(
     near: &[u32],
     once: bool,
 ) -> Result<Sight, Memory>
-    requires sound { IsSound store.now.side store.now.parts }
+    requires sound { IsSoundStore store.now.side store.now.parts }
     requires positive { AllPositive (mesh_in store.now.parts) }
     requires near { near.now ≡ numbers_of (may_go (Try.FaceSwap a b c)) 0 store.now.parts.slots }
     requires once { IsTrue once → NoFaceTwice (mesh_in store.now.parts) }
@@ -156,7 +156,7 @@ fn face_swap_seen(
 /// What is seen of a try whose new corners are at this point. `single` says that no oriented face of its
 /// new tetrahedra would occur twice.
 fn seen(store: &Store, attempt: Try, near: &[u32], at: Point, single: bool) -> Sight
-    requires sound { IsSound store.now.side store.now.parts }
+    requires sound { IsSoundStore store.now.side store.now.parts }
     requires positive { AllPositive (mesh_in store.now.parts) }
     requires near { near.now ≡ numbers_of (may_go attempt) 0 store.now.parts.slots }
     requires aim { IsAim (nat_abs store.now.side) store.now.parts attempt at }

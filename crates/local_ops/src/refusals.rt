@@ -2,7 +2,7 @@
 ghost use Rattle.grid.specs.declared.shapes.Tri.{Tri};
 ghost use Rattle.local_ops.specs.Attempts.{IsRefusedOr};
 ghost use Rattle.mesh_store.specs.Parts.{mesh_in};
-ghost use Rattle.mesh_store.specs.Sound.{IsSound};
+ghost use Rattle.mesh_store.specs.Sound.{IsSoundStore};
 ghost use Rattle.mesh_types.specs.Journals.{setting};
 ghost use Rattle.mesh_types.specs.Tries.{is_candidate};
 ghost use Rattle.mesh_types.specs.Verdicts.{PassesBox, PassesRim};
@@ -17,7 +17,7 @@ use std::alloc::Global;
 
 /// Box, Rim or Tracked: the first of them that holds.
 pub(crate) fn refusal(alloc: Global, store: &Store, attempt: Try) -> Result<Option<Why>, Memory>
-    requires sound { IsSound store.now.side store.now.parts }
+    requires sound { IsSoundStore store.now.side store.now.parts }
     requires candidate { is_candidate (mesh_in store.now.parts).tets attempt ≡ true }
     ensures { (triangles : List Tri) (e : ℕ) → IfOk result (IsRefusedOr 3 (setting triangles e store.now.side) (mesh_in store.now.parts) attempt) }
 {

@@ -2,7 +2,7 @@
 ghost use Rattle.grid.specs.Determinants.{point_at};
 ghost use Rattle.grid.specs.SideBits.{side_bits};
 ghost use Rattle.mesh_store.specs.Parts.{mesh_in};
-ghost use Rattle.mesh_store.specs.Sound.{IsSound};
+ghost use Rattle.mesh_store.specs.Sound.{IsSoundStore};
 ghost use Rattle.mesh_types.specs.Tries.{is_candidate};
 ghost use Rattle.mesh_types.specs.Verdicts.{PassesBox, ShareNoSide, StaysOnSides};
 ghost use Rattle.std.specs.Prelude.{IsTrue, length, nat_abs, pos, true, ◌<◌, ◌≡◌, ◌↔◌};
@@ -13,7 +13,7 @@ use mesh_types::Try;
 
 /// Whether the try takes nothing off a side of the box.
 pub(crate) fn keeps_sides(store: &Store, attempt: Try) -> bool
-    requires sound { IsSound store.now.side store.now.parts }
+    requires sound { IsSoundStore store.now.side store.now.parts }
     requires candidate { is_candidate (mesh_in store.now.parts).tets attempt ≡ true }
     ensures { IsTrue result ↔ PassesBox (nat_abs store.now.side) (mesh_in store.now.parts) attempt }
 {

@@ -3,7 +3,7 @@ ghost use Rattle.grid.specs.Simplices.{count, faces, has, is_rotation};
 ghost use Rattle.local_ops.specs.Measures.{corners_at, has_single_faces};
 ghost use Rattle.mesh_store.specs.Parts.{live_tets};
 ghost use Rattle.std.specs.List.{list_all};
-ghost use Rattle.std.specs.Prelude.{All, IfOk, cond, count_by, drop, length, map, nat_lt, true, ◌<◌, ◌^◌, ◌≡◌, ◌≤◌};
+ghost use Rattle.std.specs.Prelude.{All, IfOk, if◌then◌else◌, count_by, drop, length, map, nat_lt, true, ◌<◌, ◌^◌, ◌≡◌, ◌≤◌};
 
 use grid::{Face, Memory, Tet};
 use std::alloc::Global;
@@ -117,7 +117,7 @@ pub(crate) fn count_faces(face: Face, tet: Tet) -> u64
 }
 
 fn number(is: bool) -> u64
-    ensures { result ≡ cond is 1 0 }
+    ensures { result ≡ (if is then 1 else 0) }
 {
     if is { 1 } else { 0 }
 }

@@ -4,7 +4,7 @@ ghost use Rattle.grid.specs.Limits.{largest_side, most_points};
 ghost use Rattle.local_ops.specs.Measures.{corners_at};
 ghost use Rattle.local_ops.specs.Smoothing.{IsSum, IsSumUpTo, corners_but, mean_of, moved_to};
 ghost use Rattle.mesh_store.specs.Parts.{mesh_in};
-ghost use Rattle.mesh_store.specs.Sound.{IsSound};
+ghost use Rattle.mesh_store.specs.Sound.{IsSoundStore};
 ghost use Rattle.mesh_types.specs.Results.{half_way, midpoint_floored, neighbours, shifted_to, target};
 ghost use Rattle.mesh_types.specs.Tries.{tets_at_point};
 ghost use Rattle.std.specs.Int.{int_div_euclid};
@@ -19,7 +19,7 @@ use tet_slots::Slots;
 /// The mean of the neighbours of u (way 0), or the point half of the way there (1). A coordinate of u
 /// that is at an end of the box stays.
 pub(crate) fn target(alloc: Global, store: &Store, u: u32, way: u8) -> Result<Point, Memory>
-    requires sound { IsSound store.now.side store.now.parts }
+    requires sound { IsSoundStore store.now.side store.now.parts }
     requires there { 0 < tets_at_point (mesh_in store.now.parts).tets u }
     ensures { IfOk result (λ p. p ≡ target (nat_abs store.now.side) (mesh_in store.now.parts) u way) }
 {

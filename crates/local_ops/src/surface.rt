@@ -1,7 +1,7 @@
 // Tests of the tracked faces before a try.
 ghost use Rattle.grid.specs.Meshes.{Ordered};
 ghost use Rattle.grid.specs.Rims.{IsRim, triples_at};
-ghost use Rattle.grid.specs.Simplices.{has, replaced, rising};
+ghost use Rattle.grid.specs.Simplices.{has, replaced, rising, same_triple};
 ghost use Rattle.grid.specs.Views.{triples_of};
 ghost use Rattle.local_ops.specs.Surface.{at_point, is_moved_apart};
 ghost use Rattle.mesh_store.specs.Parts.{mesh_in};
@@ -9,7 +9,6 @@ ghost use Rattle.mesh_types.specs.Tries.{is_candidate};
 ghost use Rattle.mesh_types.specs.Verdicts.{KeepsSurface, PassesTracked};
 ghost use Rattle.std.specs.List.{list_all, list_any};
 ghost use Rattle.std.specs.Prelude.{IfOk, IsTrue, List, length, nat_eq, nat_lt, true, ℕ, ◌&&◌, ◌≡◌, ◌≢◌, ◌↔◌};
-ghost use Rattle.std.specs.Str.{bytes_eq};
 
 use grid::{Face, Memory};
 use mesh_store::Store;
@@ -38,7 +37,7 @@ pub(crate) fn keeps_tracked(alloc: Global, store: &Store, attempt: Try) -> Resul
 }
 
 fn is_tracked(store: &Store, face: Face) -> bool
-    ensures { result ≡ list_any (bytes_eq face.0) (mesh_in store.now.parts).tracked }
+    ensures { result ≡ list_any (same_triple face.0) (mesh_in store.now.parts).tracked }
 {
     store.tracked().has(face)
 }
@@ -64,7 +63,7 @@ pub(crate) fn faces_at(alloc: Global, store: &Store, u: u32) -> Result<Vec<Face>
 /// Puts faces into rising order, each once. Takes no memory.
 fn rise(faces: &mut Vec<Face>)
     ensures ordered { Ordered (triples_of faces.new.items) }
-    ensures same { (x : List ℕ) → list_any (bytes_eq x) (triples_of faces.new.items) ≡ list_any (bytes_eq x) (triples_of faces.old.items) }
+    ensures same { (x : List ℕ) → list_any (same_triple x) (triples_of faces.new.items) ≡ list_any (same_triple x) (triples_of faces.old.items) }
 {
     faces.sort_unstable();
     faces.dedup();

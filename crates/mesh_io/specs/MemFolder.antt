@@ -22,7 +22,7 @@ mem_state m = record {
 }
 
 -- calls take at least a byte, the names differ, and what is open is there
-pub record IsSound (m : Inside) : Type 0 where
+pub record IsSoundFolder (m : Inside) : Type 0 where
   pub chunk : 0 < m.chunk
   pub names : AllNamesDiffer m.files.items
   pub reading : IfSome (option_map place_of m.reading) (λ r. r.0 < length m.files.items)

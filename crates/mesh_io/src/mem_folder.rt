@@ -34,11 +34,11 @@ impl Model for MemFolder {
 
     ghost Value = { MemState };
 
-    ghost use Rattle.mesh_io.specs.MemFolder.{mem_state, IsSound};
+    ghost use Rattle.mesh_io.specs.MemFolder.{mem_state, IsSoundFolder};
 
     ghost view = { mem_state };
 
-    ghost invariant = { IsSound };
+    ghost invariant = { IsSoundFolder };
 }
 
 impl MemFolder {

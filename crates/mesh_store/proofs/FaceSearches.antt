@@ -1,14 +1,13 @@
 -- The tracked faces at points, sorted and each once, as parts of the list of tracked faces.
 use Rattle.std.proofs.Common.{arith, ◌≡◌, ℕ, zero, suc, ◌+◌, ◌<◌, ◌≤◌, Bool, true, false, ◌&&◌, ◌||◌, List, [], ◌∷◌, ◌++◌, length, get_or, drop, filter, refl, sym, ◌∙◌, ap, inl, inr}
 use Rattle.std.specs.List.{list_any, Contains}
-use Rattle.std.specs.Str.{bytes_eq}
 use Rattle.std.proofs.lemmas.Bool.{cases_Bool, or_cases, or_left, or_right, true≢false}
 use Rattle.std.proofs.lemmas.List.{at_drop_more, at_drop_all, map-append}
 use Rattle.std.proofs.lemmas.List.Folds.{list_any-append}
 use mathlib.Core.Bool.{or_assoc, or-false}
 use Rattle.grid.specs.declared.shapes.Face.{Face}
 use Rattle.grid.specs.Meshes.{Ordered, is_below}
-use Rattle.grid.specs.Simplices.{has}
+use Rattle.grid.specs.Simplices.{has, same_triple}
 use Rattle.grid.specs.Views.{triples_of}
 use Rattle.mesh_types.specs.declared.cut.Cut.{Cut}
 use Rattle.mesh_types.specs.Refines.{is_touched}
@@ -21,7 +20,7 @@ use Rattle.mesh_store.proofs.Moves.{among-filter}
 -- ---- membership as std's dedup and sort have it
 pub Contains-among : (x : List ℕ) (fs : List Face) → is_among x (triples_of fs) ≡ true → Contains fs (face_of x)
 Contains-among x [] e = absurd (true≢false (sym e))
-Contains-among x (f ∷ fs) e = elim (or_cases (bytes_eq x f.0) (is_among x (triples_of fs)) e) [
+Contains-among x (f ∷ fs) e = elim (or_cases (same_triple x f.0) (is_among x (triples_of fs)) e) [
   | inl h ↦ (0, omega arith, ap face_of (sym (equal_from x f.0 h)))
   | inr h ↦ let r = Contains-among x fs h in (suc r.0, next r.0 (length fs) r.1, r.2)
 ]
@@ -37,8 +36,8 @@ among-Contains x fs h = at fs h.0 h.1 h.2
 
     at : (fs : List Face) (k : ℕ) → k < length fs → get_or fs k (face_of x) ≡ face_of x → is_among x (triples_of fs) ≡ true
     at [] k l e = absurd (omega arith)
-    at (f ∷ fs) zero l e = or_left (bytes_eq x f.0) (is_among x (triples_of fs)) (equal_to x f.0 (sym (ap (λ (g : Face). g.0) e)))
-    at (f ∷ fs) (suc k) l e = or_right (bytes_eq x f.0) (is_among x (triples_of fs)) (at fs k (less k (length fs) l) e)
+    at (f ∷ fs) zero l e = or_left (same_triple x f.0) (is_among x (triples_of fs)) (equal_to x f.0 (sym (ap (λ (g : Face). g.0) e)))
+    at (f ∷ fs) (suc k) l e = or_right (same_triple x f.0) (is_among x (triples_of fs)) (at fs k (less k (length fs) l) e)
 
 -- ---- what a test lets pass
 pub triples-filter : (p : List ℕ → Bool) (fs : List Face) → triples_of (filter (λ f. p f.0) fs) ≡ filter p (triples_of fs)
@@ -85,7 +84,7 @@ module _ (keys : Keys) (cuts : List Cut) where
   goes_on n d fs at more new l e same f h x =
       let cut : Cut = get_or cuts n d in
       ap (λ (gs : List Face). is_among x (triples_of gs) || is_at_edges keys (drop (n + 1) cuts) x) (f ∙ ap (λ (gs : List Face). fs ++ filter (λ g. has g.0 cut.v) gs) (same ∙ e))
-      ∙ (ap (λ (b : Bool). b || is_at_edges keys (drop (n + 1) cuts) x) (ap (is_among x) (map-append (λ g. g.0) fs (faces_at_edge keys cut)) ∙ list_any-append (bytes_eq x) (triples_of fs) (triples_of (faces_at_edge keys cut)))
+      ∙ (ap (λ (b : Bool). b || is_at_edges keys (drop (n + 1) cuts) x) (ap (is_among x) (map-append (λ g. g.0) fs (faces_at_edge keys cut)) ∙ list_any-append (same_triple x) (triples_of fs) (triples_of (faces_at_edge keys cut)))
       ∙ (or_assoc (is_among x (triples_of fs)) (is_among x (triples_of (faces_at_edge keys cut))) (is_at_edges keys (drop (n + 1) cuts) x)
       ∙ (sym (at_drop_more (λ (es : List Cut). is_among x (triples_of fs) || is_at_edges keys es x) cuts n d l) ∙ h x)))
 

@@ -2,7 +2,6 @@
 use Rattle.std.proofs.Common.{◌≡◌, ℕ, ℤ, zero, suc, ◌+◌, ◌<◌, Bool, true, false, None, List, [], ◌∷◌, ◌++◌, map, length, get_or, take, refl, sym, ◌∙◌, ap, subst, arith}
 use Rattle.std.specs.List.{IsDistinct, AllByRecursion as Each}
 use Rattle.std.specs.Map.{keys_of}
-use Rattle.std.specs.Str.{bytes_eq}
 use Rattle.std.proofs.lemmas.Bool.{false_from_ne_true, true≢false}
 use Rattle.std.proofs.lemmas.List.{length-map, take_more}
 use Rattle.std.proofs.lemmas.List.Elements.{All-from_recursion, recursion_from_All}
@@ -10,7 +9,7 @@ use Rattle.std.proofs.lemmas.Slice.Eq.{bytes_eq-Decides}
 use Rattle.grid.specs.declared.shapes.Face.{Face}
 use Rattle.grid.specs.declared.shapes.Tet.{Tet}
 use Rattle.grid.specs.Meshes.{IsTriple, Ordered, is_below}
-use Rattle.grid.specs.Simplices.{IsTet}
+use Rattle.grid.specs.Simplices.{IsTet, same_triple}
 use Rattle.grid.specs.Views.{corners_of, triples_of}
 use Rattle.mesh_types.specs.declared.lists.Lists.{Lists}
 use Rattle.mesh_types.specs.Tracking.{in_order_once}
@@ -20,18 +19,18 @@ use Rattle.tet_slots.specs.declared.slot.Slot.{Slot}
 use Rattle.tracked.specs.Keys.{Keys, same_face, state_of, put, faces_in}
 use Rattle.tracked.proofs.ForCallers.{put-new}
 use Rattle.mesh_store.specs.Parts.{live_slot, mesh_in, parts_from}
-use Rattle.mesh_store.specs.Sound.{IsSound, IsFirstMesh}
+use Rattle.mesh_store.specs.Sound.{IsSoundStore, IsFirstMesh}
 use Rattle.mesh_store.proofs.LiveSlots.{live-made}
 
 abbrev all_in : List Face → Keys
 all_in faces = map (λ f. (f, true)) faces
 
 -- ---- faces in strictly rising order differ
-pub differ : (x y : List ℕ) → is_below x y ≡ true → bytes_eq y x ≡ false
-differ x y h = false_from_ne_true (bytes_eq y x) (λ e. true≢false (sym h ∙ (ap (is_below x) ((bytes_eq-Decides y x).0 e) ∙ below_not x)))
+pub differ : (x y : List ℕ) → is_below x y ≡ true → same_triple y x ≡ false
+differ x y h = false_from_ne_true (same_triple y x) (λ e. true≢false (sym h ∙ (ap (is_below x) ((bytes_eq-Decides y x).0 e) ∙ below_not x)))
 
-differ-after : (x y : List ℕ) → is_below x y ≡ true → bytes_eq x y ≡ false
-differ-after x y h = false_from_ne_true (bytes_eq x y) (λ e. true≢false (sym h ∙ (ap (λ z. is_below z y) ((bytes_eq-Decides x y).0 e) ∙ below_not y)))
+differ-after : (x y : List ℕ) → is_below x y ≡ true → same_triple x y ≡ false
+differ-after x y h = false_from_ne_true (same_triple x y) (λ e. true≢false (sym h ∙ (ap (λ z. is_below z y) ((bytes_eq-Decides x y).0 e) ∙ below_not y)))
 
 later : (x : List ℕ) (fs : List Face) (i : ℕ) (d : Face) → Each (λ y. is_below x y ≡ true) (triples_of fs) → i < length fs → is_below x (get_or fs i d).0 ≡ true
 later x [] i d h l = absurd (omega arith)
@@ -83,7 +82,7 @@ each-keys : (n : ℕ) (fs : List Face) → Each (IsTriple n) (triples_of fs) →
 each-keys n [] h = tt
 each-keys n (f ∷ fs) h = (h.0, each-keys n fs h.1)
 
-pub sound-first : (side : ℤ) (m : Lists) → IsFirstMesh side m → IsSound side (parts_from m)
+pub sound-first : (side : ℤ) (m : Lists) → IsFirstMesh side m → IsSoundStore side (parts_from m)
 sound-first side m h =
     let n = length m.points in
     let few = h.within.made_few in

@@ -2,12 +2,12 @@
 use Rattle.std.proofs.Common.{◌≡◌, ℕ, Bool, true, false, ◌||◌, cond, Option, None, Some, unwrap_or, List, [], ◌∷◌, refl, sym, ◌∙◌, ap}
 use Rattle.std.specs.List.{list_any, All, AllByRecursion as Each}
 use Rattle.std.specs.List.Sorted.{IsPermutation}
-use Rattle.std.specs.Str.{bytes_eq}
 use Rattle.std.proofs.lemmas.List.Elements.{recursion_from_All}
 use Rattle.std.proofs.lemmas.List.Sorted.{list_any-IsPermutation}
 use Rattle.grid.specs.declared.shapes.Face.{Face}
 use Rattle.grid.specs.Meshes.{IsTriple, Ordered}
 use Rattle.grid.specs.Views.{triples_of}
+use Rattle.grid.specs.Simplices.{same_triple}
 use Rattle.tracked.proofs.ForCallers.{same-equal}
 use Rattle.mesh_types.proofs.ForCallers.{is_among, ordered_same, in_order_once-Ordered, is_among-in_order_once, Each-in_order_once}
 use Rattle.tracked.specs.Keys.{Keys, same_face, state_of, is_in, put, faces_in}
@@ -43,7 +43,7 @@ pub is_in-all_put : (x : List ℕ) (ts : List (List ℕ)) (m : Parts) → is_in 
 is_in-all_put x [] m = refl
 is_in-all_put x (t ∷ ts) m =
     is_in-all_put x ts (face_put (face_of t) true m)
-    ∙ (ap (λ (b : Bool). is_among x ts || b) (is_in-put (face_of t) (face_of x) true m.keys) ∙ put-case (bytes_eq x t) (is_among x ts) (is_in (face_of x) m.keys))
+    ∙ (ap (λ (b : Bool). is_among x ts || b) (is_in-put (face_of t) (face_of x) true m.keys) ∙ put-case (same_triple x t) (is_among x ts) (is_in (face_of x) m.keys))
 
 -- a face that is in is a key that is in
 pub state-in : (f : Face) (keys : Keys) → is_in f keys ≡ true → state_of f keys ≡ Some true
@@ -55,16 +55,16 @@ state-in f keys e = at (state_of f keys) e
     at (Some false) e = cc
 
 -- ---- the list of the tracked faces
-any-triples : (x : List ℕ) (fs : List Face) → is_among x (triples_of fs) ≡ list_any (λ f. bytes_eq x f.0) fs
+any-triples : (x : List ℕ) (fs : List Face) → is_among x (triples_of fs) ≡ list_any (λ f. same_triple x f.0) fs
 any-triples x [] = refl
-any-triples x (f ∷ fs) = ap (λ (b : Bool). bytes_eq x f.0 || b) (any-triples x fs)
+any-triples x (f ∷ fs) = ap (λ (b : Bool). same_triple x f.0 || b) (any-triples x fs)
 
 -- the sorted list of the faces that are in is the one of the definition
 pub listed : (keys : Keys) (fs : List Face) → IsPermutation (faces_in keys) fs → Ordered (triples_of fs) → triples_of fs ≡ tracked_in keys
 listed keys fs moved ordered =
     ordered_same (triples_of fs) (tracked_in keys) ordered (in_order_once-Ordered (triples_of (faces_in keys))) (λ x.
     any-triples x fs
-    ∙ (sym (list_any-IsPermutation (λ f. bytes_eq x f.0) (faces_in keys) fs moved)
+    ∙ (sym (list_any-IsPermutation (λ f. same_triple x f.0) (faces_in keys) fs moved)
     ∙ (sym (any-triples x (faces_in keys)) ∙ sym (is_among-in_order_once x (triples_of (faces_in keys))))))
 
 in-triples : (n : ℕ) (keys : Keys) → Each (λ (k : Face × Bool). IsTriple n k.0.0) keys → Each (IsTriple n) (triples_of (faces_in keys))

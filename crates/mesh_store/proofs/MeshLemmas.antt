@@ -1,12 +1,11 @@
 -- What refining and tracking make of the mesh.
 use Rattle.std.proofs.Common.{◌≡◌, ℕ, ℤ, ◌+◌, ◌<◌, ◌≤◌, Bool, true, false, ◌||◌, cond, List, [], ◌∷◌, ◌++◌, map, length, take, refl, sym, ◌∙◌, ap, arith, length-append}
 use Rattle.std.specs.List.{AllByRecursion as Each}
-use Rattle.std.specs.Str.{bytes_eq}
 use Rattle.std.proofs.lemmas.List.{length-map, take_at}
 use Rattle.std.proofs.lemmas.List.Elements.{All-from_recursion, recursion_from_All}
 use Rattle.std.proofs.lemmas.List.Folds.{list_any-append}
 use Rattle.grid.specs.Meshes.{IsTriple, IsWellFormed, IsWithinLimits}
-use Rattle.grid.specs.Simplices.{IsTet}
+use Rattle.grid.specs.Simplices.{IsTet, same_triple}
 use Rattle.grid.specs.Views.{triples_of}
 use Rattle.grid.specs.Limits.{most_points, most_made}
 use Rattle.mesh_types.specs.declared.cut.Cut.{Cut}
@@ -19,7 +18,7 @@ use Rattle.tet_slots.specs.Slots.{slot_at}
 use Rattle.tracked.specs.Keys.{faces_in}
 use Rattle.tracked.proofs.ForCallers.{is_in-among}
 use Rattle.mesh_store.specs.Parts.{Parts, live_tets, tracked_in, mesh_in}
-use Rattle.mesh_store.specs.Sound.{IsSound}
+use Rattle.mesh_store.specs.Sound.{IsSoundStore}
 use Rattle.mesh_store.specs.Changes.{HasSameSlots, IsGrown, IsRefined, all_put, face_of, face_put, slots_split, triple_pieces}
 use Rattle.mesh_store.proofs.KeySets.{is_in-all_put, tracked-triples}
 use Rattle.mesh_store.proofs.PieceLemmas.{edges_of}
@@ -42,7 +41,7 @@ live-few : (slots : List Slot) → length (live_tets slots) ≤ length slots
 live-few [] = omega arith
 live-few (s ∷ slots) = let more = few-live (length slots) s.tet.0 (live_tets slots) s.live (live-few slots) in omega arith
 
-pub well_formed : (side : ℤ) (m : Parts) → IsSound side m → IsWellFormed (mesh_in m)
+pub well_formed : (side : ℤ) (m : Parts) → IsSoundStore side m → IsWellFormed (mesh_in m)
 well_formed side m h = record {
   tets_are = All-from_recursion (IsTet (length m.points)) (live_tets m.slots) (live-tets (length m.points) m.slots (recursion_from_All (λ (s : Slot). IsTet (length m.points) s.tet.0) m.slots h.tets_are));
   triples_are = All-from_recursion (IsTriple (length m.points)) (tracked_in m.keys) (tracked-triples (length m.points) m.keys h.triples_are);
@@ -50,11 +49,11 @@ well_formed side m h = record {
   made_is = live-few m.slots;
 }
 
-pub within : (side : ℤ) (m : Parts) → IsSound side m → IsWithinLimits (mesh_in m)
+pub within : (side : ℤ) (m : Parts) → IsSoundStore side m → IsWithinLimits (mesh_in m)
 within side m h = record { points_few = h.points_few; made_few = h.slots_few }
 
 -- ---- refining
-tracked-refined : (side : ℤ) (cuts : List Cut) (old new : Parts) → AreCuts (length old.points) cuts → IsSound side old → IsSound side new → IsRefined cuts old new → tracked_in new.keys ≡ (refine (mesh_in old) cuts).tracked
+tracked-refined : (side : ℤ) (cuts : List Cut) (old new : Parts) → AreCuts (length old.points) cuts → IsSoundStore side old → IsSoundStore side new → IsRefined cuts old new → tracked_in new.keys ≡ (refine (mesh_in old) cuts).tracked
 unfolding refine
 tracked-refined side cuts old new are before after r =
     let well : IsWellFormed (refine (mesh_in old) cuts) = refine-well_formed (mesh_in old) cuts (edges_of (length old.points) cuts are) (well_formed side old before) in
@@ -62,7 +61,7 @@ tracked-refined side cuts old new are before after r =
     is_among-in_order_once t (triples_of (faces_in new.keys))
     ∙ (sym (is_in-among (face_of t) new.keys after.distinct) ∙ (r.faces t ∙ sym (is_among-in_order t (triple_pieces cuts (length old.points) (tracked_in old.keys))))))
 
-pub mesh-refined : (side : ℤ) (cuts : List Cut) (old new : Parts) → AreCuts (length old.points) cuts → IsSound side old → IsSound side new → IsRefined cuts old new → mesh_in new ≡ refine (mesh_in old) cuts
+pub mesh-refined : (side : ℤ) (cuts : List Cut) (old new : Parts) → AreCuts (length old.points) cuts → IsSoundStore side old → IsSoundStore side new → IsRefined cuts old new → mesh_in new ≡ refine (mesh_in old) cuts
 unfolding refine
 mesh-refined side cuts old new are before after r = λ i. record {
   points = r.points i;
@@ -103,7 +102,7 @@ or_comm true false = refl
 or_comm false true = refl
 or_comm false false = refl
 
-pub mesh-tracked : (side : ℤ) (ts : List (List ℕ)) (old : Parts) → IsSound side old → IsSound side (all_put ts old) → mesh_in (all_put ts old) ≡ with_tracked (mesh_in old) ts
+pub mesh-tracked : (side : ℤ) (ts : List (List ℕ)) (old : Parts) → IsSoundStore side old → IsSoundStore side (all_put ts old) → mesh_in (all_put ts old) ≡ with_tracked (mesh_in old) ts
 unfolding with_tracked
 mesh-tracked side ts old before after =
     let same = all_put-same ts old in
@@ -116,6 +115,6 @@ mesh-tracked side ts old before after =
           ∙ (is_in-all_put t ts old
           ∙ (ap (λ (b : Bool). is_among t ts || b) (is_in-among (face_of t) old.keys before.distinct ∙ sym (is_among-in_order_once t (triples_of (faces_in old.keys))))
           ∙ (or_comm (is_among t ts) (is_among t (tracked_in old.keys))
-          ∙ (sym (list_any-append (bytes_eq t) (tracked_in old.keys) ts) ∙ sym (is_among-in_order_once t (tracked_in old.keys ++ ts)))))))) i;
+          ∙ (sym (list_any-append (same_triple t) (tracked_in old.keys) ts) ∙ sym (is_among-in_order_once t (tracked_in old.keys ++ ts)))))))) i;
       made = ap length same.slots i;
     }

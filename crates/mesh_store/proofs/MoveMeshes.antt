@@ -16,7 +16,7 @@ use Rattle.tet_slots.specs.declared.slot.Slot.{Slot}
 use Rattle.tet_slots.proofs.ForCallers.{IsTet-unused}
 use Rattle.tracked.specs.Keys.{faces_in}
 use Rattle.mesh_store.specs.Parts.{Parts, live_slot, live_tets, tracked_in, mesh_in}
-use Rattle.mesh_store.specs.Sound.{IsSound}
+use Rattle.mesh_store.specs.Sound.{IsSoundStore}
 use Rattle.mesh_store.specs.Changes.{IsGrown, point_made, killed_if}
 use Rattle.mesh_store.specs.Exchanges.{IsMoved, moved_tets, moved_triples}
 use Rattle.mesh_store.proofs.KeySets.{tracked-triples}
@@ -44,7 +44,7 @@ live-moved u v old new r =
     ∙ (ap (λ (xs : List (List ℕ)). xs ++ live_tets (map live_slot (moved_tets u v (live_tets old.slots)))) (live-killed (λ x. has x u) old.slots)
     ∙ ap (λ (xs : List (List ℕ)). filter (λ x. not (has x u)) (live_tets old.slots) ++ xs) (live-made (moved_tets u v (live_tets old.slots)))))
 
-pub tracked-moved : (side : ℤ) (u v : ℕ) (old new : Parts) → IsSound side new → IsMoved u v old new → tracked_in new.keys ≡ in_order_once (moved_triples u v (tracked_in old.keys))
+pub tracked-moved : (side : ℤ) (u v : ℕ) (old new : Parts) → IsSoundStore side new → IsMoved u v old new → tracked_in new.keys ≡ in_order_once (moved_triples u v (tracked_in old.keys))
 tracked-moved side u v old new sound r =
     ordered_same (tracked_in new.keys) (in_order_once (moved_triples u v (tracked_in old.keys))) (in_order_once-Ordered (triples_of (faces_in new.keys))) (in_order_once-Ordered (moved_triples u v (tracked_in old.keys)))
     (λ t. sym (is_in-tracked side new sound t) ∙ (r.faces t ∙ sym (is_among-in_order_once t (moved_triples u v (tracked_in old.keys)))))
@@ -54,7 +54,7 @@ made-moved u v old new r =
     omega (arith, ap length r.slots, length-append (map (killed_if (λ x. has x u)) old.slots) (map live_slot (moved_tets u v (live_tets old.slots))), length-map old.slots (killed_if (λ x. has x u)), length-map (moved_tets u v (live_tets old.slots)) live_slot)
 
 -- ---- collapses
-pub mesh-collapsed : (side : ℤ) (u v : ℕ) (old new : Parts) → IsSound side new → IsMoved u v old new → mesh_in new ≡ (collapse (mesh_in old) u v).mesh
+pub mesh-collapsed : (side : ℤ) (u v : ℕ) (old new : Parts) → IsSoundStore side new → IsMoved u v old new → mesh_in new ≡ (collapse (mesh_in old) u v).mesh
 unfolding collapse
 mesh-collapsed side u v old new sound r = λ i. record {
   points = (r.points ∙ sym (append-nil old.points)) i;
@@ -68,7 +68,7 @@ unfolding collapse
 beyond-collapsed u v m h w = let few = w.made_few in absurd (omega (arith, h, few))
 
 -- ---- shifts
-module _ (side : ℤ) (u : ℕ) (at : Point) (old : Parts) (before : IsSound side old) where
+module _ (side : ℤ) (u : ℕ) (at : Point) (old : Parts) (before : IsSoundStore side old) where
   abbrev k : ℕ
   k = length old.points
 
@@ -98,7 +98,7 @@ module _ (side : ℤ) (u : ℕ) (at : Point) (old : Parts) (before : IsSound sid
   triples-shifted : moved_triples u k (tracked_in old.keys) ≡ map (λ t. rising (replaced u k t)) (tracked_in old.keys)
   triples-shifted = ap (map (λ t. rising (replaced u k t))) (filter-all (λ t. not (has t u && has t k)) (tracked_in old.keys) triples-lack)
 
-  pub mesh-shifted : (new : Parts) → IsSound side new → IsMoved u k (point_made at old) new → mesh_in new ≡ (shift (mesh_in old) u at).mesh
+  pub mesh-shifted : (new : Parts) → IsSoundStore side new → IsMoved u k (point_made at old) new → mesh_in new ≡ (shift (mesh_in old) u at).mesh
   unfolding shift
   mesh-shifted new sound r = λ i. record {
     points = r.points i;

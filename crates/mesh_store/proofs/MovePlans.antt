@@ -10,7 +10,7 @@ use Rattle.tet_slots.specs.declared.slot.Slot.{Slot}
 use Rattle.tet_slots.specs.Searches.{numbers_of, has_corner}
 use Rattle.tracked.specs.Keys.{faces_in}
 use Rattle.mesh_store.specs.Parts.{Parts, live_slot, live_tets, tracked_in}
-use Rattle.mesh_store.specs.Sound.{IsSound}
+use Rattle.mesh_store.specs.Sound.{IsSoundStore}
 use Rattle.mesh_store.specs.Changes.{killed_if}
 use Rattle.mesh_store.specs.Exchanges.{all_killed, CanKill, CanTake, exchanged, at_corner, put_in, moved_tets, tet_in, IsMoved}
 use Rattle.mesh_store.proofs.Exchanged.{exchanged-in, tracked-in}
@@ -36,7 +36,7 @@ module _ (u v : ℕ) (old : Parts) where
       ∙ (ap (λ (is : List ℕ). put_in u v (map (tet_in old.slots) is)) p.gone_are
       ∙ (ap (put_in u v) (tets-numbers (has_corner u) (λ x. has x u) (λ s. refl) [] old.slots) ∙ put_in-at u v (live_tets old.slots)))
 
-  module _ (side : ℤ) (sound : IsSound side old) (there : v < length old.points) (gone : List ℕ) (fresh out into : List (List ℕ)) (p : IsPlanned u v old gone fresh out into) where
+  module _ (side : ℤ) (sound : IsSoundStore side old) (there : v < length old.points) (gone : List ℕ) (fresh out into : List (List ℕ)) (p : IsPlanned u v old gone fresh out into) where
     pub plan-fresh : fresh ≡ moved_tets u v (live_tets old.slots)
     plan-fresh = fresh-moved gone fresh out into p
 

@@ -1,11 +1,10 @@
 -- A point in place of another: what is taken out, what is put in, and what stays well formed.
 use Rattle.std.proofs.Common.{◌≡◌, ℕ, ◌<◌, Bool, true, false, ◌&&◌, ◌||◌, not, cond, List, [], ◌∷◌, map, filter, refl, sym, ◌∙◌, ap, inl, inr}
 use Rattle.std.specs.List.{AllByRecursion as Each}
-use Rattle.std.specs.Str.{bytes_eq}
 use Rattle.std.proofs.lemmas.Bool.{cases_Bool, and_parts, not-true}
 use mathlib.Core.Bool.{or_assoc}
 use Rattle.grid.specs.Meshes.{IsTriple, Ordered, is_below}
-use Rattle.grid.specs.Simplices.{IsTet, has, replaced, rising}
+use Rattle.grid.specs.Simplices.{IsTet, has, replaced, rising, same_triple}
 use Rattle.mesh_types.proofs.ForCallers.{IsTet-from, replaced_none, cornered-put, triple-put, cornered_of, is_among, equal_from, triple_of, rising-IsTriple}
 use Rattle.tracked.specs.Keys.{Keys, is_in, put}
 use Rattle.mesh_store.specs.Parts.{Parts}
@@ -50,7 +49,7 @@ pub is_in-all_taken : (x : List ℕ) (ts : List (List ℕ)) (m : Parts) → is_i
 is_in-all_taken x [] m = and_true (is_in (face_of x) m.keys)
 is_in-all_taken x (t ∷ ts) m =
     is_in-all_taken x ts (face_put (face_of t) false m)
-    ∙ (ap (λ (b : Bool). b && not (is_among x ts)) (is_in-put (face_of t) (face_of x) false m.keys) ∙ is_taken (bytes_eq x t) (is_in (face_of x) m.keys) (is_among x ts))
+    ∙ (ap (λ (b : Bool). b && not (is_among x ts)) (is_in-put (face_of t) (face_of x) false m.keys) ∙ is_taken (same_triple x t) (is_in (face_of x) m.keys) (is_among x ts))
 
 stay-in : (t : List ℕ) (ts : List (List ℕ)) (keys : Keys) → Each (λ y. is_below t y ≡ true) ts → Each (λ y. is_in (face_of y) keys ≡ true) ts → Each (λ y. is_in (face_of y) (put (face_of t) false keys) ≡ true) ts
 stay-in t [] keys o h = tt
@@ -88,8 +87,8 @@ among-not false a p h = refl
 pub among-filter : (p : List ℕ → Bool) (x : List ℕ) (ts : List (List ℕ)) → is_among x (filter p ts) ≡ (is_among x ts && p x)
 among-filter p x [] = refl
 among-filter p x (t ∷ ts) = elim (cases_Bool (p t)) [
-  | inl e ↦ rw e (ap (λ (b : Bool). bytes_eq x t || b) (among-filter p x ts) ∙ among-at (bytes_eq x t) (is_among x ts) (p x) (λ f. ap p (equal_from x t f) ∙ e))
-  | inr e ↦ rw e (among-filter p x ts ∙ among-not (bytes_eq x t) (is_among x ts) (p x) (λ f. ap p (equal_from x t f) ∙ e))
+  | inl e ↦ rw e (ap (λ (b : Bool). same_triple x t || b) (among-filter p x ts) ∙ among-at (same_triple x t) (is_among x ts) (p x) (λ f. ap p (equal_from x t f) ∙ e))
+  | inr e ↦ rw e (among-filter p x ts ∙ among-not (same_triple x t) (is_among x ts) (p x) (λ f. ap p (equal_from x t f) ∙ e))
 ]
 
 pub left-over : (a p : Bool) → (a && not (a && p)) ≡ (a && not p)
@@ -110,10 +109,10 @@ module _ (n u v : ℕ) (x : List ℕ) where
 
   moved-at : (t : List ℕ) (ts : List (List ℕ)) (a b : Bool) → has t u ≡ a → has t v ≡ b → IsTriple n t → is_among x (moved_triples u v ts) ≡ (changed ts || others ts) → is_among x (moved_triples u v (t ∷ ts)) ≡ (changed (t ∷ ts) || others (t ∷ ts))
   moved-at t ts true true e f r h = rw (e, f) h
-  moved-at t ts true false e f r h = rw (e, f) (ap (λ (b : Bool). bytes_eq x (rising (replaced u v t)) || b) h ∙ sym (or_assoc (bytes_eq x (rising (replaced u v t))) (changed ts) (others ts)))
+  moved-at t ts true false e f r h = rw (e, f) (ap (λ (b : Bool). same_triple x (rising (replaced u v t)) || b) h ∙ sym (or_assoc (same_triple x (rising (replaced u v t))) (changed ts) (others ts)))
   moved-at t ts false b e f r h =
       let is : rising (replaced u v t) ≡ t = ap rising (replaced_none u v t e) ∙ rising-risen t r.rises in
-      rw e (ap (λ (y : List ℕ). bytes_eq x y || is_among x (moved_triples u v ts)) is ∙ (ap (λ (b : Bool). bytes_eq x t || b) h ∙ or_turn (bytes_eq x t) (changed ts) (others ts)))
+      rw e (ap (λ (y : List ℕ). same_triple x y || is_among x (moved_triples u v ts)) is ∙ (ap (λ (b : Bool). same_triple x t || b) h ∙ or_turn (same_triple x t) (changed ts) (others ts)))
 
   among-moved : (ts : List (List ℕ)) → Each (IsTriple n) ts → is_among x (moved_triples u v ts) ≡ (changed ts || others ts)
   among-moved [] h = refl

@@ -1,15 +1,14 @@
 -- Pieces are tetrahedra and rising triples again.
 use Rattle.std.proofs.Common.{◌≡◌, ℕ, ◌+◌, ◌<◌, true, List, [], ◌∷◌, ◌++◌, map, length, replicate, pos, All, refl, sym, ◌∙◌, subst, inl, inr, arith, append-nil}
 use Rattle.std.specs.List.{AllByRecursion as Each}
-use Rattle.std.specs.Str.{bytes_eq}
 use Rattle.std.proofs.lemmas.Bool.{or_cases, or_left, or_right, true≢false}
 use Rattle.std.proofs.lemmas.List.{get_or-map, length-map, length-append, length-replicate}
 use Rattle.std.proofs.lemmas.List.Elements.{All-from_recursion, recursion_from_All}
 use Rattle.grid.specs.declared.shapes.Point.{Point}
 use Rattle.grid.specs.Meshes.{Mesh, IsTriple, IsWellFormed}
-use Rattle.grid.specs.Simplices.{rising, IsTet}
+use Rattle.grid.specs.Simplices.{rising, IsTet, same_triple}
 use Rattle.mesh_types.specs.declared.cut.Cut.{Cut}
-use Rattle.mesh_types.specs.CutLists.{IsCut, AreCuts}
+use Rattle.mesh_types.specs.CutLists.{IsCutBelow, AreCuts}
 use Rattle.mesh_types.specs.Refines.{sub_all, is_touched, in_order, refine}
 use Rattle.mesh_types.proofs.ForCallers.{Each-weaker, refine-IsTet, is_among, equal_from, equal_to, is_among-in_order, IsEdge, refine-well_formed}
 
@@ -19,9 +18,9 @@ All-unmap P f xs h = λ i d l. subst P (get_or-map f xs i d (f d) l) (h i (f d) 
 
 -- the edges of a list of cuts
 pub edges_of : (n : ℕ) (cuts : List Cut) → AreCuts n cuts → Each (IsEdge n) cuts
-edges_of n cuts h = Each-weaker (IsCut n) (IsEdge n) (edge n) cuts (recursion_from_All (IsCut n) cuts h.each)
+edges_of n cuts h = Each-weaker (IsCutBelow n) (IsEdge n) (edge n) cuts (recursion_from_All (IsCutBelow n) cuts h.each)
   where
-    edge : (n : ℕ) (e : Cut) → IsCut n e → IsEdge n e
+    edge : (n : ℕ) (e : Cut) → IsCutBelow n e → IsEdge n e
     edge n e c = let p = c.ends_rise in let q = c.in_range in record { ends_differ = λ f. absurd (same e.u e.v p f); first_in = omega arith; second_in = q }
       where
         same : (a b : ℕ) → a < b → a ≡ b → ⊥
@@ -48,14 +47,14 @@ module _ (points : List Point) (cuts : List Cut) where
 
   among-each : (P : List ℕ → Type 0) (t : List ℕ) (xs : List (List ℕ)) → Each P xs → is_among t xs ≡ true → P t
   among-each P t [] h e = absurd (true≢false (sym e))
-  among-each P t (x ∷ xs) h e = elim (or_cases (bytes_eq t x) (is_among t xs) e) [
+  among-each P t (x ∷ xs) h e = elim (or_cases (same_triple t x) (is_among t xs) e) [
     | inl f ↦ subst P (sym (equal_from t x f)) h.0
     | inr f ↦ among-each P t xs h.1 f
   ]
 
   each-among : (P : List ℕ → Type 0) (xs : List (List ℕ)) → ((t : List ℕ) → is_among t xs ≡ true → P t) → Each P xs
   each-among P [] h = tt
-  each-among P (x ∷ xs) h = (h x (or_left (bytes_eq x x) (is_among x xs) (equal_to x x refl)), each-among P xs (λ t e. h t (or_right (bytes_eq t x) (is_among t xs) e)))
+  each-among P (x ∷ xs) h = (h x (or_left (same_triple x x) (is_among x xs) (equal_to x x refl)), each-among P xs (λ t e. h t (or_right (same_triple t x) (is_among t xs) e)))
 
   Each-from_in_order : (P : List ℕ → Type 0) (xs : List (List ℕ)) → Each P (in_order xs) → Each P xs
   Each-from_in_order P xs h = each-among P xs (λ t e. among-each P t (in_order xs) h (is_among-in_order t xs ∙ e))

@@ -14,7 +14,7 @@ use Rattle.tet_slots.proofs.ForCallers.{killed-length}
 use Rattle.tracked.specs.Keys.{state_of}
 use Rattle.tracked.proofs.ForCallers.{All-put, All-key, distinct-put}
 use Rattle.mesh_store.specs.Parts.{Parts, live_slot}
-use Rattle.mesh_store.specs.Sound.{IsSound}
+use Rattle.mesh_store.specs.Sound.{IsSoundStore}
 use Rattle.mesh_store.specs.Changes.{point_made, tet_made, slot_killed, face_put}
 
 pub IsTet-more : (n k : ℕ) (x : List ℕ) → n ≤ k → IsTet n x → IsTet k x
@@ -23,7 +23,7 @@ IsTet-more n k x le h = record { four = h.four; different = h.different; in_rang
 pub IsTriple-more : (n k : ℕ) (x : List ℕ) → n ≤ k → IsTriple n x → IsTriple k x
 IsTriple-more n k x le h = record { three = h.three; rises = h.rises; in_range = λ i d l. omega (arith, le, h.in_range i d l) }
 
-pub sound-point : (side : ℤ) (p : Point) (m : Parts) → length m.points < most_points → IsInBox (nat_abs side) p → IsSound side m → IsSound side (point_made p m)
+pub sound-point : (side : ℤ) (p : Point) (m : Parts) → length m.points < most_points → IsInBox (nat_abs side) p → IsSoundStore side m → IsSoundStore side (point_made p m)
 sound-point side p m room inside h =
     let longer : length (m.points ++ p ∷ []) ≡ length m.points + 1 = length_push m.points p in
     record {
@@ -36,7 +36,7 @@ sound-point side p m room inside h =
       distinct = h.distinct;
     }
 
-pub sound-tet : (side : ℤ) (x : List ℕ) (m : Parts) → length m.slots < most_made → IsTet (length m.points) x → IsSound side m → IsSound side (tet_made x m)
+pub sound-tet : (side : ℤ) (x : List ℕ) (m : Parts) → length m.slots < most_made → IsTet (length m.points) x → IsSoundStore side m → IsSoundStore side (tet_made x m)
 sound-tet side x m room new h = record {
   box = h.box;
   points_few = h.points_few;
@@ -47,7 +47,7 @@ sound-tet side x m room new h = record {
   distinct = h.distinct;
 }
 
-pub sound-killed : (side : ℤ) (i : ℕ) (m : Parts) → i < length m.slots → IsSound side m → IsSound side (slot_killed i m)
+pub sound-killed : (side : ℤ) (i : ℕ) (m : Parts) → i < length m.slots → IsSoundStore side m → IsSoundStore side (slot_killed i m)
 sound-killed side i m there h = record {
   box = h.box;
   points_few = h.points_few;
@@ -58,7 +58,7 @@ sound-killed side i m there h = record {
   distinct = h.distinct;
 }
 
-pub sound-put : (side : ℤ) (f : Face) (b : Bool) (m : Parts) → IsTriple (length m.points) f.0 → IsSound side m → IsSound side (face_put f b m)
+pub sound-put : (side : ℤ) (f : Face) (b : Bool) (m : Parts) → IsTriple (length m.points) f.0 → IsSoundStore side m → IsSoundStore side (face_put f b m)
 sound-put side f b m triple h = record {
   box = h.box;
   points_few = h.points_few;
@@ -70,5 +70,5 @@ sound-put side f b m triple h = record {
 }
 
 -- a key is a rising triple of points
-pub triple-key : (side : ℤ) (f : Face) (b : Bool) (m : Parts) → state_of f m.keys ≡ Some b → IsSound side m → IsTriple (length m.points) f.0
+pub triple-key : (side : ℤ) (f : Face) (b : Bool) (m : Parts) → state_of f m.keys ≡ Some b → IsSoundStore side m → IsTriple (length m.points) f.0
 triple-key side f b m is h = All-key (IsTriple (length m.points)) f b m.keys is h.triples_are

@@ -1,13 +1,12 @@
 -- Refining as a step: what the step wants, and what it makes.
 use Rattle.std.proofs.Common.{◌≡◌, ℕ, ℤ, ◌+◌, Bool, true, false, ◌||◌, not, ◌&&◌, List, [], ◌∷◌, ◌++◌, map, filter, length, refl, sym, ◌∙◌, ap, subst, All}
 use Rattle.std.specs.List.{flat_map, AllByRecursion as Each}
-use Rattle.std.specs.Str.{bytes_eq}
 use Rattle.std.proofs.lemmas.List.Elements.{All-from_recursion, recursion_from_All}
 use Rattle.std.proofs.lemmas.List.Folds.{list_any-append}
 use mathlib.Core.Bool.{or_assoc}
 use Rattle.grid.specs.declared.shapes.Face.{Face}
 use Rattle.grid.specs.Meshes.{IsTriple}
-use Rattle.grid.specs.Simplices.{IsTet, rising}
+use Rattle.grid.specs.Simplices.{IsTet, rising, same_triple}
 use Rattle.grid.specs.Views.{triples_of}
 use Rattle.mesh_types.specs.declared.cut.Cut.{Cut}
 use Rattle.mesh_types.specs.CutLists.{AreCuts}
@@ -17,7 +16,7 @@ use Rattle.tet_slots.specs.declared.slot.Slot.{Slot}
 use Rattle.tet_slots.specs.Searches.{numbers_of}
 use Rattle.tracked.specs.Keys.{faces_in}
 use Rattle.mesh_store.specs.Parts.{Parts, live_slot, live_tets, tracked_in}
-use Rattle.mesh_store.specs.Sound.{IsSound}
+use Rattle.mesh_store.specs.Sound.{IsSoundStore}
 use Rattle.mesh_store.specs.Changes.{is_split, IsSplit, slot_pieces, triple_pieces, killed_if}
 use Rattle.mesh_store.specs.Exchanges.{all_killed, CanKill, CanTake, exchanged, tet_in}
 use Rattle.mesh_store.proofs.Exchanged.{exchanged-in, tracked-in}
@@ -37,7 +36,7 @@ module _ (cuts : List Cut) (k : ℕ) (x : List ℕ) where
   others ts = is_among x (filter (λ t. not (is_touched cuts t)) ts)
 
   among-first : (t : List ℕ) (ts : List (List ℕ)) → is_among x (triple_pieces cuts k (t ∷ ts)) ≡ (is_among x (triple_pieces cuts k (t ∷ [])) || is_among x (triple_pieces cuts k ts))
-  among-first t ts = ap (is_among x) (pieces-append cuts k (t ∷ []) ts) ∙ list_any-append (bytes_eq x) (triple_pieces cuts k (t ∷ [])) (triple_pieces cuts k ts)
+  among-first t ts = ap (is_among x) (pieces-append cuts k (t ∷ []) ts) ∙ list_any-append (same_triple x) (triple_pieces cuts k (t ∷ [])) (triple_pieces cuts k ts)
 
   pieces-at : (t : List ℕ) (ts : List (List ℕ)) (b : Bool) → is_touched cuts t ≡ b → IsTriple k t → is_among x (triple_pieces cuts k ts) ≡ (split ts || others ts) → is_among x (triple_pieces cuts k (t ∷ ts)) ≡ (split (t ∷ ts) || others (t ∷ ts))
   pieces-at t ts true e r h =
@@ -49,7 +48,7 @@ module _ (cuts : List Cut) (k : ℕ) (x : List ℕ) where
       among-first t ts
       ∙ (ap (λ (b : Bool). is_among x (triple_pieces cuts k (t ∷ [])) || b) h
       ∙ (ap (λ (ys : List (List ℕ)). is_among x ys || (split ts || others ts)) (whole cuts k t r e)
-      ∙ (one (bytes_eq x t) (split ts) (others ts) ∙ rw e refl)))
+      ∙ (one (same_triple x t) (split ts) (others ts) ∙ rw e refl)))
     where
       one : (e a b : Bool) → ((e || false) || (a || b)) ≡ (a || (e || b))
       one true true b = refl
@@ -112,7 +111,7 @@ module _ (cuts : List Cut) (k : ℕ) (old : Parts) (gone : List ℕ) (fresh out 
         (λ t h. recursion_from_All (λ y. IsTriple n (rising y)) (sub_all k cuts t) (All-unmap (IsTriple n) rising (sub_all k cuts t) (numbered-IsTriple k n cuts t numbered are h))) touched
         (Each-filter (IsTriple k) (is_touched cuts) (tracked_in old.keys) (tracked-triples k old.keys triples)))))
 
-  module _ (side : ℤ) (sound : IsSound side old) where
+  module _ (side : ℤ) (sound : IsSoundStore side old) where
     pub split-can_take : CanTake out old.keys
     split-can_take =
         subst (λ (ts : List (List ℕ)). CanTake ts old.keys) (sym p.out_are)

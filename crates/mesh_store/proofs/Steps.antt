@@ -13,7 +13,7 @@ use Rattle.tracked.specs.Keys.{Keys, state_of, added_for}
 use Rattle.tracked.specs.declared.table.Added.TheVariants.{Restored, New}
 use Rattle.tracked.proofs.ForCallers.{put-same, put-back, state-put, put-new}
 use Rattle.mesh_store.specs.Parts.{Parts, live_slot}
-use Rattle.mesh_store.specs.Sound.{IsSound}
+use Rattle.mesh_store.specs.Sound.{IsSoundStore}
 use Rattle.mesh_store.specs.Changes.{with_parts, point_made, tet_made, slot_killed, face_put}
 use Rattle.mesh_store.specs.Forgetting.{CanForget}
 use Rattle.mesh_store.specs.Undoing.{front, undone, all_undone, CanUndo, CanUndoAll, LeaveSound, track_marks}
@@ -71,7 +71,7 @@ is-New (Some false) e = cc
 -- ---- marks that lead back from m to the parts before
 pub record LeadBack (before : Parts) (more : List Mark) (m : Parts) : Type 0 where
   pub can : (marks : List Mark) → CanUndoAll marks before → CanUndoAll (marks ++ more) m
-  pub leave : (side : ℤ) (marks : List Mark) → LeaveSound side marks before → IsSound side before → LeaveSound side (marks ++ more) m
+  pub leave : (side : ℤ) (marks : List Mark) → LeaveSound side marks before → IsSoundStore side before → LeaveSound side (marks ++ more) m
   pub gives : (marks : List Mark) → all_undone (marks ++ more) m ≡ all_undone marks before
 
 pub lead-one : (before m : Parts) (x : Mark) → undone x m ≡ before → CanUndo x m → LeadBack before (x ∷ []) m
@@ -97,7 +97,7 @@ lead-track f m (Some false) is = lead-one m (face_put f true m) (FaceIn f) (back
 pub record IsMarked (s t : Inside) (more : List Mark) (m : Parts) : Type 0 where
   pub parts_are : parts_now t ≡ m
   pub back : LeadBack (parts_now s) more m
-  pub sound : IsSound s.side m
+  pub sound : IsSoundStore s.side m
   pub forget : CanForget s.undo s.slots → CanForget (s.undo ++ more) t.slots
   pub undo_is : t.undo ≡ s.undo ++ more
   pub opened_is : t.opened ≡ s.opened

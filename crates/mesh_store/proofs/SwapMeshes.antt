@@ -13,7 +13,7 @@ use Rattle.tet_slots.specs.declared.slot.Slot.{Slot}
 use Rattle.tet_slots.specs.Slots.{no_slot}
 use Rattle.tet_slots.specs.Searches.{numbers_of, has_edge}
 use Rattle.mesh_store.specs.Parts.{Parts, live_slot, live_tets, tracked_in, mesh_in}
-use Rattle.mesh_store.specs.Sound.{IsSound}
+use Rattle.mesh_store.specs.Sound.{IsSoundStore}
 use Rattle.mesh_store.specs.Exchanges.{all_killed, CanKill, exchanged, has_either, tet_in}
 use Rattle.mesh_store.proofs.Finding.{find-later, has_face-has, outside-is, IsFirst, first-numbers, none-numbers, two-can_kill, two-killed}
 use Rattle.mesh_store.proofs.Killing.{CanKill-numbers, all_killed-numbers, all_killed-length, tets-numbers}
@@ -35,7 +35,7 @@ pub put-IsTet : (n u c : ℕ) (x : List ℕ) → IsTet n x → has x c ≡ false
 put-IsTet n u c x h e l = IsTet-from n (replaced u c x) (cornered-put u c n x (cornered_of n x h) e l)
 
 -- the numbers of slots that hold tetrahedra
-pub tet-at : (side : ℤ) (m : Parts) → IsSound side m → (i : ℕ) → i < length m.slots → IsTet (length m.points) (tet_in m.slots i)
+pub tet-at : (side : ℤ) (m : Parts) → IsSoundStore side m → (i : ℕ) → i < length m.slots → IsTet (length m.points) (tet_in m.slots i)
 tet-at side m h i l = h.tets_are i no_slot l
 
 and_assoc : (a b c : Bool) → ((a && b) && c) ≡ (a && (b && c))
@@ -207,7 +207,7 @@ module _ (a b c : ℕ) (old : Parts) where
         pub face-can_kill : CanKill (i ∷ j ∷ []) old.slots
         face-can_kill = two-can_kill (has_either (face3 a b c)) (is_across (face3 a b c) (tet_in old.slots i)) old.slots i j first second apart
 
-        pub face-corners : (side : ℤ) → IsSound side old → (u : ℕ) → IsTet (length old.points) (replaced u o (tet_in old.slots i))
+        pub face-corners : (side : ℤ) → IsSoundStore side old → (u : ℕ) → IsTet (length old.points) (replaced u o (tet_in old.slots i))
         face-corners side sound u =
             let r = outside-is (tet_in old.slots i) (tet_in old.slots j) o apex in
             put-IsTet (length old.points) u o (tet_in old.slots i) (tet-at side old sound i first.there) r.0
@@ -248,7 +248,7 @@ module _ (u v : ℕ) (old : Parts) (gone : List ℕ) (i : ℕ) (x : List ℕ) (o
   pub hinge-unchanged : o ≡ None → mesh_in old ≡ (edge_swap (mesh_in old) u v).mesh
   hinge-unchanged e = edge-unchanged u v old i (drop 1 gone) all-is (out-is ∙ e)
 
-  module _ (side : ℤ) (sound : IsSound side old) (c : ℕ) (e : o ≡ Some c) where
+  module _ (side : ℤ) (sound : IsSoundStore side old) (c : ℕ) (e : o ≡ Some c) where
     each-tet : (is : List ℕ) → Each (λ j. j < length old.slots) is → Each (λ j. IsTet (length old.points) (tet_in old.slots j)) is
     each-tet [] h = tt
     each-tet (j ∷ is) h = (tet-at side old sound j h.0, each-tet is h.1)

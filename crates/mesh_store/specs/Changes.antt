@@ -1,10 +1,9 @@
 -- What the changes of a store keep and make.
 use Rattle.std.specs.Prelude.{◌≡◌, ℕ, ◌<◌, ◌≤◌, Bool, true, false, not, ◌&&◌, List, [], ◌∷◌, ◌++◌, length, map, take}
 use Rattle.std.specs.List.{flat_map, filter, list_any}
-use Rattle.std.specs.Str.{bytes_eq}
 use Rattle.grid.specs.declared.shapes.Face.{Face}
 use Rattle.grid.specs.declared.shapes.Point.{Point}
-use Rattle.grid.specs.Simplices.{rising}
+use Rattle.grid.specs.Simplices.{rising, same_triple}
 use Rattle.mesh_types.specs.declared.cut.Cut.{Cut}
 use Rattle.mesh_types.specs.Refines.{sub_all, is_touched}
 use Rattle.tet_slots.specs.declared.slot.Slot.{Slot}
@@ -89,10 +88,10 @@ triple_pieces cuts k triples = map rising (flat_map (sub_all k cuts) triples)
 pub record IsSplit (cuts : List Cut) (k : ℕ) (old new : Parts) : Type 0 where
   pub points : new.points ≡ old.points
   pub slots : new.slots ≡ slots_split cuts k old.slots
-  pub faces : (t : List ℕ) → is_in (face_of t) new.keys ≡ list_any (bytes_eq t) (triple_pieces cuts k (tracked_in old.keys))
+  pub faces : (t : List ℕ) → is_in (face_of t) new.keys ≡ list_any (same_triple t) (triple_pieces cuts k (tracked_in old.keys))
 
 -- the points of the cuts are made, and the slots and the tracked triples are split
 pub record IsRefined (cuts : List Cut) (old new : Parts) : Type 0 where
   pub points : new.points ≡ old.points ++ map (λ e. e.at) cuts
   pub slots : new.slots ≡ slots_split cuts (length old.points) old.slots
-  pub faces : (t : List ℕ) → is_in (face_of t) new.keys ≡ list_any (bytes_eq t) (triple_pieces cuts (length old.points) (tracked_in old.keys))
+  pub faces : (t : List ℕ) → is_in (face_of t) new.keys ≡ list_any (same_triple t) (triple_pieces cuts (length old.points) (tracked_in old.keys))

@@ -1,8 +1,7 @@
 -- The step that all local operations share: slots are killed, tetrahedra are made, tracked faces are taken out and others are put in.
 use Rattle.std.specs.Prelude.{◌≡◌, ℕ, ◌<◌, Bool, true, false, not, ◌&&◌, ◌||◌, Some, List, [], ◌∷◌, ◌++◌, length, map}
 use Rattle.std.specs.List.{filter, list_any}
-use Rattle.std.specs.Str.{bytes_eq}
-use Rattle.grid.specs.Simplices.{has, replaced, reversed, rising}
+use Rattle.grid.specs.Simplices.{has, replaced, reversed, rising, same_triple}
 use Rattle.mesh_types.specs.Results.{has_face}
 use Rattle.tet_slots.specs.declared.slot.Slot.{Slot}
 use Rattle.tet_slots.specs.Slots.{slot_at, with_live}
@@ -51,7 +50,7 @@ moved_triples u v triples = map (λ t. rising (replaced u v t)) (filter (λ t. n
 pub record IsMoved (u v : ℕ) (old new : Parts) : Type 0 where
   pub points : new.points ≡ old.points
   pub slots : new.slots ≡ map (killed_if (λ x. has x u)) old.slots ++ map live_slot (moved_tets u v (live_tets old.slots))
-  pub faces : (t : List ℕ) → is_in (face_of t) new.keys ≡ list_any (bytes_eq t) (moved_triples u v (tracked_in old.keys))
+  pub faces : (t : List ℕ) → is_in (face_of t) new.keys ≡ list_any (same_triple t) (moved_triples u v (tracked_in old.keys))
 
 -- ---- the lists of a change
 -- the tetrahedron of a slot

@@ -1,5 +1,5 @@
 -- The slots that marks say were killed: the end of a transaction forgets them.
-use Rattle.std.specs.Prelude.{◌≡◌, ℕ, ◌+◌, ◌-◌, ◌<◌, ◌≤◌, true, false, nat_eq, cond, List, [], ◌∷◌, length, take, slice_set}
+use Rattle.std.specs.Prelude.{◌≡◌, ℕ, ◌+◌, ◌-◌, ◌<◌, ◌≤◌, true, false, nat_eq, if◌then◌else◌, List, [], ◌∷◌, length, take, slice_set}
 use Rattle.undo_record.specs.declared.mark.Mark.{Mark}
 use Rattle.undo_record.specs.declared.mark.Mark.TheVariants.{PointMade, TetMade, Killed, FaceNew, FaceIn, FaceOut}
 use Rattle.tet_slots.specs.Slots.{SlotLists, is_forgotten, slot_at, with_live}
@@ -9,7 +9,7 @@ use Rattle.mesh_store.specs.Undoing.{front}
 abbrev pub kill_of : ℕ → Mark → ℕ
 kill_of i PointMade = 0
 kill_of i TetMade = 0
-kill_of i (Killed s) = cond (nat_eq s i) 1 0
+kill_of i (Killed s) = if nat_eq s i then 1 else 0
 kill_of i FaceNew = 0
 kill_of i (FaceIn f) = 0
 kill_of i (FaceOut f) = 0

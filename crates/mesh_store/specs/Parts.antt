@@ -1,5 +1,5 @@
 -- What a store shows, and the mesh that it stands for.
-use Rattle.std.specs.Prelude.{ℕ, ℤ, true, cond, Option, None, unwrap_or, List, [], ◌∷◌, length, map}
+use Rattle.std.specs.Prelude.{ℕ, ℤ, true, if◌then◌else◌, Option, None, unwrap_or, List, [], ◌∷◌, length, map}
 use Rattle.grid.specs.declared.shapes.Point.{Point}
 use Rattle.grid.specs.Meshes.{Mesh}
 use Rattle.grid.specs.Views.{corners_of, triples_of}
@@ -21,7 +21,7 @@ parts_of s keys = record { points = s.points; slots = s.slots; keys = keys }
 -- the tetrahedra of the live slots, in rising order of the slots
 abbrev pub live_tets : List Slot → List (List ℕ)
 live_tets [] = []
-live_tets (s ∷ ss) = cond s.live (s.tet.0 ∷ live_tets ss) (live_tets ss)
+live_tets (s ∷ ss) = if s.live then s.tet.0 ∷ live_tets ss else live_tets ss
 
 -- the tracked faces in rising order: the keys that are in
 abbrev pub tracked_in : Keys → List (List ℕ)

@@ -17,7 +17,7 @@ pub record IsBox (side : ℤ) : Type 0 where
   pub high : side ≤ℤ pos largest_side
 
 -- within the limits, the points in the box, each slot four different points, each key a rising triple of points, and no key twice
-pub record IsSound (side : ℤ) (m : Parts) : Type 0 where
+pub record IsSoundStore (side : ℤ) (m : Parts) : Type 0 where
   pub box : IsBox side
   pub points_few : length m.points ≤ most_points
   pub slots_few : length m.slots ≤ most_made

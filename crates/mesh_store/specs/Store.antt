@@ -1,16 +1,16 @@
 -- The fields of a store as what it shows, and what its type keeps.
-use Rattle.std.specs.Prelude.{◌≡◌, Bool, false, cond, Option, None, Some, []}
+use Rattle.std.specs.Prelude.{◌≡◌, Bool, false, if◌then◌else◌, Option, None, Some, []}
 use Rattle.mesh_store.specs.declared.store.Store.TheInside.{Inside}
 use Rattle.mesh_store.specs.Parts.{Parts, StoreView, parts_of}
 use Rattle.mesh_store.specs.Forgetting.{CanForget}
-use Rattle.mesh_store.specs.Sound.{IsSound}
+use Rattle.mesh_store.specs.Sound.{IsSoundStore}
 use Rattle.mesh_store.specs.Undoing.{all_undone, CanUndoAll, LeaveSound}
 
 abbrev pub parts_now : Inside → Parts
 parts_now s = parts_of s.slots s.tracked
 
 abbrev pub begun : Bool → Parts → Option Parts
-begun opened m = cond opened (Some m) None
+begun opened m = if opened then Some m else None
 
 -- the parts at begin are what undoing gives
 abbrev pub store_view : Inside → StoreView
@@ -22,4 +22,4 @@ pub record IsUndoable (s : Inside) : Type 0 where
   pub leave : LeaveSound s.side s.undo (parts_now s)
   pub forget : CanForget s.undo s.slots
   pub none : s.opened ≡ false → s.undo ≡ []
-  pub sound : IsSound s.side (parts_now s)
+  pub sound : IsSoundStore s.side (parts_now s)

@@ -6,7 +6,7 @@ use Rattle.undo_record.specs.declared.mark.Mark.TheVariants.{PointMade, TetMade,
 use Rattle.tet_slots.specs.Slots.{with_live, slot_at, IsUnused}
 use Rattle.tracked.specs.Keys.{state_of, put}
 use Rattle.mesh_store.specs.Parts.{Parts}
-use Rattle.mesh_store.specs.Sound.{IsSound}
+use Rattle.mesh_store.specs.Sound.{IsSoundStore}
 
 -- all but the last
 abbrev pub front : {X : Type 0} → List X → List X
@@ -43,7 +43,7 @@ CanUndoAll (x ∷ xs) m = CanUndoAll xs m × CanUndo x (all_undone xs m)
 -- undoing each mark in its turn leaves sound parts
 abbrev pub LeaveSound : ℤ → List Mark → Parts → Type 0
 LeaveSound side [] m = Unit {0}
-LeaveSound side (x ∷ xs) m = LeaveSound side xs m × IsSound side (undone x (all_undone xs m))
+LeaveSound side (x ∷ xs) m = LeaveSound side xs m × IsSoundStore side (undone x (all_undone xs m))
 
 -- undoing the marks, last first, can be done and gives the target
 pub record LeadsTo (target : Parts) (marks : List Mark) (m : Parts) : Type 0 where

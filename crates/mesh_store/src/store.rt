@@ -3,7 +3,7 @@ ghost use Rattle.grid.specs.Meshes.{IsTriple, IsWithinLimits};
 ghost use Rattle.grid.specs.Views.{triples_of};
 ghost use Rattle.mesh_store.specs.Changes.{AddedAreLive, HasSameSlots, IsGrown, IsSameTransaction};
 ghost use Rattle.mesh_store.specs.Parts.{mesh_in, parts_from, rolled_back};
-ghost use Rattle.mesh_store.specs.Sound.{IsFirstMesh, IsSound};
+ghost use Rattle.mesh_store.specs.Sound.{IsFirstMesh, IsSoundStore};
 ghost use Rattle.mesh_types.specs.CutLists.{AreCuts};
 ghost use Rattle.mesh_types.specs.Refines.{refine};
 ghost use Rattle.mesh_types.specs.Results.{collapse, edge_swap, face_swap, shift};
@@ -294,7 +294,7 @@ impl Store {
     pub fn slots(&self) -> &Slots
         ensures points { result.now.points ≡ self.now.parts.points }
         ensures slots { result.now.slots ≡ self.now.parts.slots }
-        ensures sound { IsSound self.now.side self.now.parts }
+        ensures sound { IsSoundStore self.now.side self.now.parts }
     {
         &self.slots
     }
@@ -302,7 +302,7 @@ impl Store {
     /// The tracked faces.
     pub fn tracked(&self) -> &Tracked
         ensures keys { result.now ≡ self.now.parts.keys }
-        ensures sound { IsSound self.now.side self.now.parts }
+        ensures sound { IsSoundStore self.now.side self.now.parts }
     {
         &self.tracked
     }

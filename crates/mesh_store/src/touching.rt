@@ -1,6 +1,6 @@
 // What a list of cuts touches, and the tracked faces at a point.
 ghost use Rattle.grid.specs.Meshes.{Ordered};
-ghost use Rattle.grid.specs.Simplices.{has};
+ghost use Rattle.grid.specs.Simplices.{has, same_triple};
 ghost use Rattle.grid.specs.Views.{triples_of};
 ghost use Rattle.mesh_store.specs.Changes.{is_split};
 ghost use Rattle.mesh_store.specs.Exchanges.{at_corner};
@@ -8,7 +8,6 @@ ghost use Rattle.mesh_store.specs.Parts.{tracked_in};
 ghost use Rattle.mesh_types.specs.Refines.{is_touched};
 ghost use Rattle.std.specs.List.{filter, list_any};
 ghost use Rattle.std.specs.Prelude.{IfOk, List, OnOk, ℕ, ◌++◌, ◌≡◌};
-ghost use Rattle.std.specs.Str.{bytes_eq};
 ghost use Rattle.tet_slots.specs.Searches.{numbers_of};
 
 use grid::{Face, Memory};
@@ -75,7 +74,7 @@ fn push_having(touched: &mut Vec<Face>, faces: &[Face], v: u32) -> Result<(), Me
 /// Puts faces into rising order, each once. Takes no memory.
 fn rise(faces: &mut Vec<Face>)
     ensures ordered { Ordered (triples_of faces.new.items) }
-    ensures same { (x : List ℕ) → list_any (bytes_eq x) (triples_of faces.new.items) ≡ list_any (bytes_eq x) (triples_of faces.old.items) }
+    ensures same { (x : List ℕ) → list_any (same_triple x) (triples_of faces.new.items) ≡ list_any (same_triple x) (triples_of faces.old.items) }
 {
     faces.sort_unstable();
     faces.dedup();

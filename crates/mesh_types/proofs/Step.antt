@@ -34,8 +34,8 @@ not_same : (f : List ℕ) (k c : ℕ) → has f k ≡ false → has f c ≡ true
 not_same f k c h g e = true≢false (sym g ∙ ap (has f) e ∙ h)
 
 -- the split of the edge (u,v) at the point p
-abbrev pub IsCut : List Point → ℕ → ℕ → ℕ → Point → Type 0
-IsCut points l u v p = IsCutOf points l (record { u = u; v = v; at = p })
+abbrev pub IsCutBelow : List Point → ℕ → ℕ → ℕ → Point → Type 0
+IsCutBelow points l u v p = IsCutOf points l (record { u = u; v = v; at = p })
 
 -- ---- no face twice
 pub once-split : (u v k : ℕ) (ts : List (List ℕ)) → IsReady u v k ts → ((a b c : ℕ) → count (a ∷ b ∷ c ∷ []) ts ≤ 1) → ((x : List ℕ) → count_by (λ y. same_corners x y) ts ≤ 1)
@@ -78,7 +78,7 @@ pub side-append : (points : List Point) (p : Point) (l : ℕ) (f : List ℕ) →
 side-append points p l f h s = record { side = s.side; corners = corners-append points p l s.side f h s.corners }
 
 -- a face with the new point and one end, from the face with both ends
-side-new : (points : List Point) (p : Point) (l u v w : ℕ) (f : List ℕ) → IsCut points l u v p → has (replaced (length points) w f) u ≡ true → has (replaced (length points) w f) v ≡ true
+side-new : (points : List Point) (p : Point) (l u v w : ℕ) (f : List ℕ) → IsCutBelow points l u v p → has (replaced (length points) w f) u ≡ true → has (replaced (length points) w f) v ≡ true
     → IsOnOneSide points l (replaced (length points) w f) → IsOnOneSide (points ++ p ∷ []) l f
 side-new points p l u v w f cut hu hv s = record {
   side = s.side;
@@ -88,7 +88,7 @@ side-new points p l u v w f cut hu hv s = record {
   ];
 }
 
-pub rim-split : (points : List Point) (p : Point) (l u v : ℕ) (ts : List (List ℕ)) → IsReady u v (length points) ts → IsCut points l u v p
+pub rim-split : (points : List Point) (p : Point) (l u v : ℕ) (ts : List (List ℕ)) → IsReady u v (length points) ts → IsCutBelow points l u v p
     → ((a b c : ℕ) → 0 < count (a ∷ b ∷ c ∷ []) ts → count (a ∷ c ∷ b ∷ []) ts ≡ 0 → IsOnOneSide points l (a ∷ b ∷ c ∷ []))
     → (a b c : ℕ) → 0 < count (a ∷ b ∷ c ∷ []) (flat_map (sub u v (length points)) ts) → count (a ∷ c ∷ b ∷ []) (flat_map (sub u v (length points)) ts) ≡ 0 → IsOnOneSide (points ++ p ∷ []) l (a ∷ b ∷ c ∷ [])
 rim-split points p l u v ts i cut rim a b c some none =

@@ -1,5 +1,5 @@
 -- Refinement of meshes by a list of edges, and its laws.
-use Rattle.std.specs.Prelude.{◌≢◌, ℕ, ◌+◌, ◌<◌, Bool, false, not, ◌&&◌, ◌||◌, cond, List, [], ◌∷◌, ◌++◌, map, length, All}
+use Rattle.std.specs.Prelude.{◌≢◌, ℕ, ◌+◌, ◌<◌, Bool, false, not, ◌&&◌, ◌||◌, if◌then◌else◌, List, [], ◌∷◌, ◌++◌, map, length, All}
 use Rattle.std.specs.List.{flat_map, filter}
 use Rattle.grid.specs.declared.shapes.Point.{Point}
 use Rattle.grid.specs.Simplices.{has, sub, rising}
@@ -22,7 +22,7 @@ is_touched (e ∷ es) x = (has x e.u && has x e.v) || is_touched es x
 -- x, put before the first triple that is not below it
 abbrev pub insert_triple : List ℕ → List (List ℕ) → List (List ℕ)
 insert_triple x [] = x ∷ []
-insert_triple x (y ∷ ys) = cond (is_below y x) (y ∷ insert_triple x ys) (x ∷ y ∷ ys)
+insert_triple x (y ∷ ys) = if is_below y x then y ∷ insert_triple x ys else x ∷ y ∷ ys
 
 -- the triples in rising order
 abbrev pub in_order : List (List ℕ) → List (List ℕ)

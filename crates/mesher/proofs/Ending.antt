@@ -15,7 +15,7 @@ use Rattle.mesh_types.specs.Journals.{AllCovered, setting}
 use Rattle.mesh_types.specs.Verdicts.{Setting, IsCovered}
 use Rattle.mesh_types.specs.Views.{mesh_of}
 use Rattle.mesh_store.specs.Parts.{Parts, mesh_in}
-use Rattle.mesh_store.specs.Sound.{IsSound}
+use Rattle.mesh_store.specs.Sound.{IsSoundStore}
 use Rattle.mesh_store.proofs.ForCallers.{well_formed, within}
 use Rattle.soup.specs.declared.raw.Soup.{Soup}
 use Rattle.mesher.specs.declared.meshed.Meshed.{Meshed}
@@ -60,7 +60,7 @@ part-of env triangles e budget z side start first m outcomes lines end ts same i
 
 -- ---- the whole
 pub meshed-is : (soup : Soup) (e cells budget : ℕ) (middle : Mesh) (m : Parts) (made : Meshed)
-    → IsSound soup.side m
+    → IsSoundStore soup.side m
     → IsPart (setting soup.triangles e soup.side) (range_with_len 0 (length soup.triangles)) budget (lattice (nat_abs soup.side) cells) made.outcomes made.journal.lines made.end middle
     → IsSecondOrNone (setting soup.triangles e soup.side) (rolled_back 0 made.outcomes) (budget - length made.journal.lines) middle made.second (mesh_in m)
     → Tiles (mesh_in m) (nat_abs soup.side)

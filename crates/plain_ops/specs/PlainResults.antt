@@ -1,5 +1,5 @@
 -- The results of tries in the code, and searches in them.
-use Rattle.std.specs.Prelude.{◌≡◌, ℕ, Bool, cond, List, Option, None, Some, MatchOption}
+use Rattle.std.specs.Prelude.{◌≡◌, ℕ, Bool, if◌then◌else◌, List, Option, None, Some, MatchOption}
 use Rattle.std.specs.List.{find}
 use Rattle.grid.specs.declared.shapes.Tet.{Tet}
 use Rattle.grid.specs.Views.{corners_of}
@@ -17,4 +17,4 @@ IsFoundIn p xs found = MatchOption found (find p xs ≡ None) (λ x. find p xs �
 
 -- what is left of a list, where x is left out already or is to be left out once
 abbrev pub left_of : Bool → List ℕ → List (List ℕ) → List (List ℕ)
-left_of is_out x ys = cond is_out ys (without x ys)
+left_of is_out x ys = if is_out then ys else without x ys

@@ -10,7 +10,7 @@ ghost use Rattle.mesh_types.specs.Views.{mesh_of};
 ghost use Rattle.plain_ops.specs.Afters.{IsFine, has_single_faces};
 ghost use Rattle.plain_ops.specs.PlainResults.{result_in};
 ghost use Rattle.std.specs.List.{list_all};
-ghost use Rattle.std.specs.Prelude.{All, IsTrue, cond, count_by, length, map, nat_lt, ◌≡◌, ◌≤◌, ◌↔◌};
+ghost use Rattle.std.specs.Prelude.{All, IsTrue, if◌then◌else◌, count_by, length, map, nat_lt, ◌≡◌, ◌≤◌, ◌↔◌};
 
 use crate::defects::is_among;
 use crate::points::point_or_origin;
@@ -74,7 +74,7 @@ fn count_in(face: Face, tet: Tet) -> usize
 }
 
 fn number(is: bool) -> usize
-    ensures { result ≡ cond is 1 0 }
+    ensures { result ≡ (if is then 1 else 0) }
 {
     if is { 1 } else { 0 }
 }

@@ -6,7 +6,7 @@ use Rattle.std.proofs.lemmas.List.Elements.{recursion_from_All}
 use Rattle.grid.specs.Simplices.{sub}
 use Rattle.grid.specs.Meshes.{is_below, Ordered}
 use Rattle.mesh_types.specs.declared.cut.Cut.{Cut}
-use Rattle.mesh_types.specs.CutLists.{IsCut, AreCuts, ends_of}
+use Rattle.mesh_types.specs.CutLists.{IsCutBelow, AreCuts, ends_of}
 use Rattle.mesh_types.specs.Refines.{sub_all}
 use Rattle.mesh_types.proofs.ForCallers.{below_cases}
 use Rattle.cut_tables.specs.Cutting.{RankEdge, pieces_of, split_in_turn}
@@ -23,7 +23,7 @@ pub sub_all-numbered : (k : ℕ) (es : List Cut) (x : List ℕ) → sub_all k es
 sub_all-numbered k [] x = refl
 sub_all-numbered k (e ∷ es) x = everywhere (sub_all (k + 1) es) (split_in_turn (numbered (k + 1) es)) (sub_all-numbered (k + 1) es) (sub e.u e.v k x)
 
-numbers : (n k : ℕ) (es : List Cut) → n ≤ k → Each (IsCut n) es → Each (IsNumbered n) (numbered k es)
+numbers : (n k : ℕ) (es : List Cut) → n ≤ k → Each (IsCutBelow n) es → Each (IsNumbered n) (numbered k es)
 numbers n k [] le c = tt
 numbers n k (e ∷ es) le c = (
   record { first_below = omega (arith, c.0.ends_rise, c.0.in_range); second_below = c.0.in_range; label_not = le },
@@ -31,14 +31,14 @@ numbers n k (e ∷ es) le c = (
 )
 
 pub numbered-IsNumbered : (n : ℕ) (es : List Cut) → AreCuts n es → Each (IsNumbered n) (numbered n es)
-numbered-IsNumbered n es c = numbers n n es (omega arith) (recursion_from_All (IsCut n) es c.each)
+numbered-IsNumbered n es c = numbers n n es (omega arith) (recursion_from_All (IsCutBelow n) es c.each)
 
-ups : (n k : ℕ) (es : List Cut) → Each (IsCut n) es → Each (λ e. e.first < e.second) (numbered k es)
+ups : (n k : ℕ) (es : List Cut) → Each (IsCutBelow n) es → Each (λ e. e.first < e.second) (numbered k es)
 ups n k [] c = tt
 ups n k (e ∷ es) c = (c.0.ends_rise, ups n (k + 1) es c.1)
 
 pub numbered-up : (n : ℕ) (es : List Cut) → AreCuts n es → Each (λ e. e.first < e.second) (numbered n es)
-numbered-up n es c = ups n n es (recursion_from_All (IsCut n) es c.each)
+numbered-up n es c = ups n n es (recursion_from_All (IsCutBelow n) es c.each)
 
 before-from : (d e : RankEdge) → is_below (d.first ∷ d.second ∷ []) (e.first ∷ e.second ∷ []) ≡ true → IsBefore d e
 before-from d e h = elim (below_cases d.first e.first (d.second ∷ []) (e.second ∷ []) h) [

@@ -1,5 +1,5 @@
 -- The labels of a table's row for a tetrahedron: its corners by rank, and the new points of the cuts at its edges.
-use Rattle.std.specs.Prelude.{◌≡◌, ℕ, ◌+◌, ◌<◌, Bool, true, false, ◌&&◌, nat_eq, cond, List, [], ◌∷◌, map, get_or, Option, None, Some, is_some}
+use Rattle.std.specs.Prelude.{◌≡◌, ℕ, ◌+◌, ◌<◌, Bool, true, false, ◌&&◌, nat_eq, if◌then◌else◌, List, [], ◌∷◌, map, get_or, Option, None, Some, is_some}
 use Rattle.std.specs.List.{filter, AllByRecursion, AllWithin}
 use Rattle.std.specs.List.Sorted.{IsPartitionPoint}
 use Rattle.grid.specs.Meshes.{is_below}
@@ -40,7 +40,7 @@ number_or_none (Some k) = k
 
 -- the weight of an edge that has a new point
 abbrev pub bit : ℕ → Option ℕ → ℕ
-bit weight point = cond (is_some point) weight 0
+bit weight point = if is_some point then weight else 0
 
 -- the mask of the edges that have new points
 abbrev pub mask_of : Option ℕ → Option ℕ → Option ℕ → Option ℕ → Option ℕ → Option ℕ → ℕ
@@ -56,7 +56,7 @@ renamed f e = record { first = f e.first; second = f e.second; label = f e.label
 
 -- the list has just this edge where the mask has its label, and else none with its ends
 abbrev pub IsLookedUp : (ℕ → ℕ) → ℕ → List RankEdge → RankEdge → Type 0
-IsLookedUp f mask es e = filter (joins (f e.first) (f e.second)) es ≡ cond (has_label mask e.label) (renamed f e ∷ []) []
+IsLookedUp f mask es e = filter (joins (f e.first) (f e.second)) es ≡ (if has_label mask e.label then renamed f e ∷ [] else [])
 
 -- the numbers of the labels of a mask, which has the edges between these corners that are cut
 pub record AreLabels (first : ℕ) (cuts : List Cut) (corners numbers : List ℕ) (mask : ℕ) : Type 0 where

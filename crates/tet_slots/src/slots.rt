@@ -3,7 +3,7 @@ ghost use Rattle.grid.specs.Simplices.{IsTet};
 ghost use Rattle.std.specs.List.{filter};
 ghost use Rattle.std.specs.Prelude.{All, IfOk, OnErr, OnOk, [], false, length, take, slice_set, true, ◌++◌, ◌-◌, ◌<◌, ◌^◌, ◌∷◌, ◌≡◌};
 ghost use Rattle.tet_slots.specs.Searches.{has_corner, has_edge, meets, numbers_of};
-ghost use Rattle.tet_slots.specs.Slots.{IsSound, IsUnused, SlotLists, is_forgotten, slot_at, with_live};
+ghost use Rattle.tet_slots.specs.Slots.{AreSoundSlots, IsUnused, SlotLists, is_forgotten, slot_at, with_live};
 
 use crate::bins::Level;
 use crate::meeting::Quest;
@@ -245,7 +245,7 @@ impl Slots {
     /// The number of points.
     pub fn points(&self) -> u32
         ensures count { result ≡ length self.now.points }
-        ensures sound { IsSound self.now }
+        ensures sound { AreSoundSlots self.now }
     {
         self.points.len() as u32
     }
@@ -253,7 +253,7 @@ impl Slots {
     /// The number of slots, live and dead.
     pub fn made(&self) -> u32
         ensures count { result ≡ length self.now.slots }
-        ensures sound { IsSound self.now }
+        ensures sound { AreSoundSlots self.now }
     {
         self.slots.len() as u32
     }

@@ -3,13 +3,12 @@ use Rattle.std.proofs.Common.{◌≡◌, ℕ, ◌<◌, ◌^◌, Bool, true, fals
 use Rattle.std.specs.Cmp.{IsEquivalence}
 use Rattle.std.specs.List.{AllByRecursion, IsDistinct, list_any}
 use Rattle.std.specs.Map.{keys_of}
-use Rattle.std.specs.Str.{bytes_eq}
 use Rattle.std.proofs.lemmas.List.Elements.{All-from_recursion, recursion_from_All}
 use Rattle.std.proofs.lemmas.Map.Keys.{IsDistinct-head, IsDistinct-tail, IsDistinct-push}
 use Rattle.std.proofs.lemmas.Slice.Eq.{bytes_eq-Decides}
 use Rattle.grid.specs.declared.shapes.Face.{Face}
 use Rattle.grid.specs.Meshes.{IsTriple}
-use Rattle.grid.specs.Simplices.{Rises}
+use Rattle.grid.specs.Simplices.{Rises, same_triple}
 use Rattle.grid.specs.Views.{triples_of}
 use Rattle.tracked.specs.Keys.{Keys, same_face, state_of, is_in, put, faces_in}
 use Rattle.tracked.proofs.KeyLemmas.{put-new}
@@ -95,19 +94,19 @@ distinct-put f b keys h = at (state_of f keys) refl
     at (Some c) is = subst (IsDistinct same_face) (sym (keys-put f b c keys is)) h
 
 -- ---- a face is in where it is one of the faces that are in
-none-among : (g : Face) (ts : List (List ℕ)) → AllByRecursion (λ t. bytes_eq g.0 t ≡ false) ts → list_any (bytes_eq g.0) ts ≡ false
+none-among : (g : Face) (ts : List (List ℕ)) → AllByRecursion (λ t. same_triple g.0 t ≡ false) ts → list_any (same_triple g.0) ts ≡ false
 none-among g [] h = refl
 none-among g (t ∷ ts) h = rw h.0 (none-among g ts h.1)
 
-pub is_in-among : (g : Face) (keys : Keys) → IsDistinct same_face (keys_of keys) → is_in g keys ≡ list_any (bytes_eq g.0) (triples_of (faces_in keys))
+pub is_in-among : (g : Face) (keys : Keys) → IsDistinct same_face (keys_of keys) → is_in g keys ≡ list_any (same_triple g.0) (triples_of (faces_in keys))
 is_in-among g [] h = refl
 is_in-among g ((f, b) ∷ keys) h =
     at (same_face g f) refl b (is_in-among g keys (IsDistinct-tail same_face f (keys_of keys) h))
   where
-    rest_none : same_face g f ≡ true → list_any (bytes_eq g.0) (triples_of (faces_in keys)) ≡ false
-    rest_none is = none-among g (triples_of (faces_in keys)) (subst (λ (x : Face). AllByRecursion (λ t. bytes_eq x.0 t ≡ false) (triples_of (faces_in keys))) (sym (same-equal g f is)) (in-apart f keys (IsDistinct-head same_face f (keys_of keys) h)))
+    rest_none : same_face g f ≡ true → list_any (same_triple g.0) (triples_of (faces_in keys)) ≡ false
+    rest_none is = none-among g (triples_of (faces_in keys)) (subst (λ (x : Face). AllByRecursion (λ t. same_triple x.0 t ≡ false) (triples_of (faces_in keys))) (sym (same-equal g f is)) (in-apart f keys (IsDistinct-head same_face f (keys_of keys) h)))
 
-    at : (here : Bool) → same_face g f ≡ here → (s : Bool) → is_in g keys ≡ list_any (bytes_eq g.0) (triples_of (faces_in keys)) → is_in g ((f, s) ∷ keys) ≡ list_any (bytes_eq g.0) (triples_of (faces_in ((f, s) ∷ keys)))
+    at : (here : Bool) → same_face g f ≡ here → (s : Bool) → is_in g keys ≡ list_any (same_triple g.0) (triples_of (faces_in keys)) → is_in g ((f, s) ∷ keys) ≡ list_any (same_triple g.0) (triples_of (faces_in ((f, s) ∷ keys)))
     at true is true rest = rw is refl
     at true is false rest = rw is (sym (rest_none is))
     at false is true rest = rw is rest

@@ -7,7 +7,6 @@ use Rattle.std.specs.Cmp.Lexicographic.{slice_cmp}
 use Rattle.std.specs.List.{IsDistinct, AllByRecursion}
 use Rattle.std.specs.List.Sorted.{IsPermutation, IsStrictlySortedBy}
 use Rattle.std.specs.Ordering.{nat_cmp, is_lt, is_eq, ordering_reverse}
-use Rattle.std.specs.Str.{bytes_eq}
 use Rattle.std.proofs.lemmas.Bool.Decides.{nat_tests}
 use Rattle.std.proofs.lemmas.Cmp.{same_from_slice_cmp, nat_list_cmp_total}
 use Rattle.std.proofs.lemmas.Map.Keys.{IsDistinct-IsPermutation, apart_from_distinct, sorted_from_all_adjacent}
@@ -16,6 +15,7 @@ use Rattle.std.proofs.lemmas.Slice.Eq.{bytes_eq-Decides}
 use Rattle.grid.specs.declared.shapes.Face.{Face}
 use Rattle.grid.specs.Meshes.{is_below, Ordered}
 use Rattle.grid.specs.Views.{triples_of}
+use Rattle.grid.specs.Simplices.{same_triple}
 use Rattle.tracked.specs.Keys.{same_face}
 use Rattle.tracked.proofs.KeyFacts.{same_bools}
 
@@ -44,8 +44,8 @@ Ordered-sorted (f ∷ fs) h = (below_all f fs h.0, Ordered-sorted fs h.1)
 abbrev LessOrEqual : List Face → Type 0
 LessOrEqual fs = (k : ℕ) (d : Face) → 0 ≤ k → k + 1 < length fs → is_lt (face_cmp (get_or fs (k + 1) d) (get_or fs k d)) ≡ false
 
-pub flip_eq : (x y : List ℕ) → bytes_eq x y ≡ bytes_eq y x
-flip_eq x y = same_bools (bytes_eq x y) (bytes_eq y x) (λ e. (bytes_eq-Decides y x).1 (sym ((bytes_eq-Decides x y).0 e))) (λ e. (bytes_eq-Decides x y).1 (sym ((bytes_eq-Decides y x).0 e)))
+pub flip_eq : (x y : List ℕ) → same_triple x y ≡ same_triple y x
+flip_eq x y = same_bools (same_triple x y) (same_triple y x) (λ e. (bytes_eq-Decides y x).1 (sym ((bytes_eq-Decides x y).0 e))) (λ e. (bytes_eq-Decides x y).1 (sym ((bytes_eq-Decides y x).0 e)))
 
 -- neither above nor equal
 less : (o : Ordering) (r : Ordering) → o ≡ ordering_reverse r → is_lt r ≡ false → is_eq o ≡ false → o ≡ Less
@@ -55,16 +55,16 @@ less Greater Less e f g = cc
 less Greater Equal e f g = cc
 less Greater Greater e f g = cc
 
-distinct_faces : (fs : List Face) → IsDistinct bytes_eq (triples_of fs) → IsDistinct same_face fs
+distinct_faces : (fs : List Face) → IsDistinct same_triple (triples_of fs) → IsDistinct same_face fs
 unfolding IsDistinct
 distinct_faces [] h = tt
 distinct_faces (f ∷ fs) h = (each f fs h.0, distinct_faces fs h.1)
   where
-    each : (f : Face) (gs : List Face) → AllByRecursion (λ t. bytes_eq f.0 t ≡ false) (triples_of gs) → AllByRecursion (λ g. same_face f g ≡ false) gs
+    each : (f : Face) (gs : List Face) → AllByRecursion (λ t. same_triple f.0 t ≡ false) (triples_of gs) → AllByRecursion (λ g. same_face f g ≡ false) gs
     each f [] h = tt
     each f (g ∷ gs) h = (h.0, each f gs h.1)
 
-pub Ordered-of_sorted : (fs gs : List Face) → IsPermutation fs gs → IsDistinct bytes_eq (triples_of fs) → LessOrEqual gs → Ordered (triples_of gs)
+pub Ordered-of_sorted : (fs gs : List Face) → IsPermutation fs gs → IsDistinct same_triple (triples_of fs) → LessOrEqual gs → Ordered (triples_of gs)
 Ordered-of_sorted fs gs moved distinct sorted =
     let apart = IsDistinct-IsPermutation same_face (λ f g. flip_eq f.0 g.0) fs gs moved (distinct_faces fs distinct) in
     let none : Face = record { 0 = [] } in

@@ -1,12 +1,11 @@
 -- Keys in the order made, each in or out.
-use Rattle.std.specs.Prelude.{ℕ, ◌^◌, Bool, true, false, cond, Option, None, Some, List, [], ◌∷◌, unwrap_or, slice_index_or, All}
+use Rattle.std.specs.Prelude.{ℕ, ◌^◌, Bool, true, false, if◌then◌else◌, Option, None, Some, List, [], ◌∷◌, unwrap_or, slice_index_or, All}
 use Rattle.std.specs.List.{filter}
-use Rattle.std.specs.Str.{bytes_eq}
 use Rattle.std.specs.Map.{lookup}
 use Rattle.indexmap.specs.IndexMap.{insert_entry}
 use Rattle.grid.specs.declared.shapes.Face.{Face}
 use Rattle.grid.specs.Meshes.{IsTriple}
-use Rattle.grid.specs.Simplices.{has}
+use Rattle.grid.specs.Simplices.{has, same_triple}
 use Rattle.tracked.specs.declared.table.Added.{Added}
 use Rattle.tracked.specs.declared.table.Added.TheVariants.{Already, Restored, New}
 
@@ -15,7 +14,7 @@ Keys = List (Face × Bool)
 
 -- the same corners in the same places
 abbrev pub same_face : Face → Face → Bool
-same_face f g = bytes_eq f.0 g.0
+same_face f g = same_triple f.0 g.0
 
 -- whether a key is in, or none where it is no key
 abbrev pub state_of : Face → Keys → Option Bool
@@ -37,7 +36,7 @@ added_for (Some false) = Restored
 -- the keys that are in, in the order made
 abbrev pub faces_in : Keys → List Face
 faces_in [] = []
-faces_in (k ∷ ks) = cond k.1 (k.0 ∷ faces_in ks) (faces_in ks)
+faces_in (k ∷ ks) = if k.1 then k.0 ∷ faces_in ks else faces_in ks
 
 -- those of them that have u
 abbrev pub faces_at : Keys → ℕ → List Face

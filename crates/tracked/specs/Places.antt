@@ -1,5 +1,5 @@
 -- The places of the keys at a point, and the index that has them.
-use Rattle.std.specs.Prelude.{◌≡◌, ℕ, suc, ◌-◌, ◌<◌, ◌^◌, nat_eq, cond, Option, None, Some, List, [], ◌∷◌, ◌++◌, length, take}
+use Rattle.std.specs.Prelude.{◌≡◌, ℕ, suc, ◌-◌, ◌<◌, ◌^◌, nat_eq, if◌then◌else◌, Option, None, Some, List, [], ◌∷◌, ◌++◌, length, take}
 use Rattle.smallvec.specs.SmallVec.{SmallVec}
 use Rattle.indexmap.specs.IndexMap.{IndexMap, get}
 use Rattle.grid.specs.Simplices.{has}
@@ -8,7 +8,7 @@ use Rattle.tracked.specs.Keys.{Keys, AreTriples}
 -- the places of the keys that have u, counted from k
 abbrev pub places_of : ℕ → ℕ → Keys → List ℕ
 places_of u k [] = []
-places_of u k (f ∷ fs) = cond (has f.0.0 u) (k ∷ places_of u (suc k) fs) (places_of u (suc k) fs)
+places_of u k (f ∷ fs) = if has f.0.0 u then k ∷ places_of u (suc k) fs else places_of u (suc k) fs
 
 -- the numbers of a list, if there is one
 abbrev pub numbers_in : Option (SmallVec ℕ) → List ℕ
@@ -30,11 +30,11 @@ module _ {S : Type 0} where
 
   -- the places at the point were changed by f, and no others
   pub record IsChangedAt (f : List ℕ → List ℕ) (point : ℕ) (old new : IndexMap ℕ (SmallVec ℕ) S) : Type 0 where
-    pub each : (u : ℕ) → places_at new u ≡ cond (nat_eq point u) (f (places_at old u)) (places_at old u)
+    pub each : (u : ℕ) → places_at new u ≡ (if nat_eq point u then f (places_at old u) else places_at old u)
 
   -- the places at each of the corners were changed by f, and no others
   pub record IsChanged (f : List ℕ → List ℕ) (corners : List ℕ) (old new : IndexMap ℕ (SmallVec ℕ) S) : Type 0 where
-    pub each : (u : ℕ) → places_at new u ≡ cond (has corners u) (f (places_at old u)) (places_at old u)
+    pub each : (u : ℕ) → places_at new u ≡ (if has corners u then f (places_at old u) else places_at old u)
 
   -- the index has the same places
   pub record IsSame (old new : IndexMap ℕ (SmallVec ℕ) S) : Type 0 where

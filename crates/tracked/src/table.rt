@@ -1,11 +1,10 @@
 ghost use Rattle.grid.specs.Meshes.{Ordered};
 ghost use Rattle.grid.specs.Rims.{IsRim, triples_at};
-ghost use Rattle.grid.specs.Simplices.{Rises, has};
+ghost use Rattle.grid.specs.Simplices.{Rises, has, same_triple};
 ghost use Rattle.grid.specs.Views.{triples_of};
 ghost use Rattle.std.specs.List.{IsDistinct};
 ghost use Rattle.std.specs.List.Sorted.{IsPermutation};
 ghost use Rattle.std.specs.Prelude.{All, IfOk, IsTrue, None, OnErr, OnOk, Some, [], false, length, take, true, ◌-◌, ◌<◌, ◌^◌, ◌≡◌, ◌≢◌, ◌↔◌};
-ghost use Rattle.std.specs.Str.{bytes_eq};
 ghost use Rattle.tracked.specs.Keys.{added_for, entry_at, faces_at, faces_in, is_in, put, state_of};
 ghost use Rattle.tracked.specs.Places.{places_of};
 ghost use Rattle.tracked.specs.RimEdges.{has_rim_edge, is_rim_edge};
@@ -248,7 +247,7 @@ impl Tracked {
     /// The tracked faces in the order in which their keys were made.
     fn faces(&self, alloc: Global) -> Result<Vec<Face>, Memory>
         ensures faces { IfOk result (λ v. v.items ≡ faces_in self.now) }
-        ensures distinct { IfOk result (λ v. IsDistinct bytes_eq (triples_of v.items)) }
+        ensures distinct { IfOk result (λ v. IsDistinct same_triple (triples_of v.items)) }
     {
         let mut faces = Vec::new(alloc);
         for (face, is_in) in self.keys.iter() {

@@ -6,7 +6,7 @@ use Rattle.mesh_types.specs.Insertion.{IsInsertion}
 use Rattle.mesh_types.specs.Phases.{cut_by}
 use Rattle.mesh_store.specs.Parts.{Parts, StoreView, mesh_in}
 use Rattle.insertion.specs.Bare.{IsCovered}
-use Rattle.insertion.specs.Progress.{start_of, closed, IsOpenFrom, IsCut}
+use Rattle.insertion.specs.Progress.{start_of, closed, IsOpenFrom, IsCutBy}
 use Rattle.cutting_rule.proofs.ForCallers.{full-first}
 use Rattle.insertion.proofs.Starting.{begun-open, start-is, closed-old, cut-is}
 use Rattle.insertion.proofs.inserting.insert.Goals as goal
@@ -18,7 +18,7 @@ settle-requires-clause-cut c =
     let area : ¬ IsDegenerate tri = search rules in
     let opened : IsOpenFrom old.parts old.side c.cut.new.store = c.in-Ok.ensures.goes_on old.parts old.side (begun-open old c.begin.new.self c.begin.ensures) in
     let mesh : mesh_in c.cut.new.store.parts ≡ cut_by (mesh_in c.begin.new.self.parts) tri = c.in-Ok.ensures.mesh ∙ ap (cut_by (mesh_in c.begin.new.self.parts)) c.new-triangle.ensures in
-    subst (λ t. IsCut t c.cut.new.store) c.triangle-tri.ensures.value
+    subst (λ t. IsCutBy t c.cut.new.store) c.triangle-tri.ensures.value
     (cut-is old c.begin.new.self c.cut.new.store tri c.begin.ensures c.slots.ensures.sound c.requires.positive opened c.in-Ok.ensures.sound mesh c.in-Ok.ensures.within area c.triangle-tri.ensures.within)
 
 pub settle-requires-clause-points : goal.settle-requires-clause-points

@@ -4,7 +4,7 @@ use Rattle.grid.specs.declared.shapes.Point.{Point}
 use Rattle.grid.specs.Boxes.{IsInBox}
 use Rattle.grid.specs.Determinants.{point_at}
 use Rattle.mesh_types.specs.declared.cut.Cut.{Cut}
-use Rattle.mesh_types.specs.CutLists.{AreCuts, IsCut}
+use Rattle.mesh_types.specs.CutLists.{AreCuts, IsCutBelow}
 use Rattle.mesh_types.specs.Results.{midpoint_floored}
 use Rattle.mesh_types.proofs.ForCallers.{split_is}
 use Rattle.mesh_store.specs.Parts.{StoreView, mesh_in}
@@ -29,7 +29,7 @@ refine-requires-clause-cuts c =
     let v = c.args.store.now in
     let cut : Cut = record { u = c.args.u; v = c.args.v; at = c.midpoint-at.result } in
     subst (λ (s : StoreView). AreCuts (length s.parts.points) (cut ∷ [])) (sym c.begin.ensures) (record {
-      each = All-from_recursion (IsCut (length v.parts.points)) (cut ∷ []) (record { ends_rise = (split_is (mesh_in v.parts).tets c.args.u c.args.v c.requires.candidate).0; in_range = (split_ends (mesh_in v.parts) c.args.u c.args.v (well_formed v.side v.parts c.requires.sound) c.requires.candidate).1 }, tt);
+      each = All-from_recursion (IsCutBelow (length v.parts.points)) (cut ∷ []) (record { ends_rise = (split_is (mesh_in v.parts).tets c.args.u c.args.v c.requires.candidate).0; in_range = (split_ends (mesh_in v.parts) c.args.u c.args.v (well_formed v.side v.parts c.requires.sound) c.requires.candidate).1 }, tt);
       ordered = (tt, tt);
     })
 

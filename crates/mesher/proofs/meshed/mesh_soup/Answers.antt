@@ -12,7 +12,7 @@ use Rattle.mesh_types.specs.Turns.{rolled_back}
 use Rattle.mesh_types.specs.Views.{mesh_of}
 use Rattle.mesh_types.proofs.ForCallers.{one-each}
 use Rattle.mesh_store.specs.Parts.{StoreView, mesh_in}
-use Rattle.mesh_store.specs.Sound.{IsSound}
+use Rattle.mesh_store.specs.Sound.{IsSoundStore}
 use Rattle.mesh_store.proofs.ForCallers.{well_formed}
 use Rattle.mesher.specs.Meshed.{AreCoverings, HasItsCertificate, IsSecondOrNone}
 use Rattle.mesher.proofs.Beginning.{first-mesh}
@@ -56,7 +56,7 @@ coverings-requires-clause-in_box c =
     let side = c.args.soup.now.side in
     let whole = to_z-of_z (side-SFits side c.requires.side) in
     let kept = c.second_part.ensures.side ∙ (c.first_part.ensures.side ∙ (ap (λ (v : StoreView). v.side) c.in_ok-store.ensures.view ∙ whole)) in
-    let sound = subst (λ z. IsSound z c.second_part.new.store.parts) kept c.slots.ensures.sound in
+    let sound = subst (λ z. IsSoundStore z c.second_part.new.store.parts) kept c.slots.ensures.sound in
     let inside = subst (λ (m : Mesh). All (IsInBox (nat_abs side)) m.points) (sym c.in_ok-mesh.ensures) sound.in_box in
     rw c.as_slice-2.ensures (in-grid side c.in_ok-mesh.mesh.points c.requires.side inside)
 
@@ -88,7 +88,7 @@ returns c =
     let start = c.in_ok-store.ensures.mesh ∙ (c.in_ok-start.ensures.is ∙ ap (λ z. lattice (nat_abs z) c.args.cells) whole) in
     let began = ap (λ (v : StoreView). v.side) c.in_ok-store.ensures.view ∙ whole in
     let kept = c.first_part.ensures.side ∙ began in
-    let sound = subst (λ z. IsSound z last.parts) (c.second_part.ensures.side ∙ kept) c.slots.ensures.sound in
+    let sound = subst (λ z. IsSoundStore z last.parts) (c.second_part.ensures.side ∙ kept) c.slots.ensures.sound in
     let one = part-of env triangles e c.args.budget first.side side (mesh_in first.parts) (lattice (nat_abs side) c.args.cells) (mesh_in middle.parts) found.outcomes.items found.journal.lines found.end same began start c.in_ok-outcomes.ensures.part in
     let less = subst (λ k. IsSecondOrNone (setting env e middle.side) (rolled_back 0 c.deref.result.now) (c.args.budget - k) (mesh_in middle.parts) c.in_ok-second.second (mesh_in last.parts)) c.len.ensures c.in_ok-second.ensures.part in
     let those = subst (λ os. IsSecondOrNone (setting env e middle.side) (rolled_back 0 os) (c.args.budget - length found.journal.lines) (mesh_in middle.parts) c.in_ok-second.second (mesh_in last.parts)) c.deref.ensures.value less in

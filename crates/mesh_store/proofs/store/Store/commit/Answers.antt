@@ -1,6 +1,6 @@
 use Rattle.std.proofs.Common.{◌≡◌, subst, sym, None, ap, ◌∙◌}
 use Rattle.mesh_store.specs.Parts.{StoreView}
-use Rattle.mesh_store.specs.Sound.{IsSound}
+use Rattle.mesh_store.specs.Sound.{IsSoundStore}
 use Rattle.mesh_store.specs.Store.{parts_now}
 use Rattle.mesh_store.proofs.store.Store.commit.Goals as goal
 use Rattle.mesh_store.proofs.store.Store.commit.Goals.{After-forget_killed}
@@ -17,7 +17,7 @@ invariant_of-self c = record {
   leave = rw c.forget_killed.ensures.none tt;
   forget = rw c.forget_killed.ensures.none c.forget_killed.ensures.known;
   none = λ _. c.forget_killed.ensures.none;
-  sound = subst (IsSound c.self.inside.side) (sym (parts-stay (goal.at.invariant_of-self c).After-forget_killed)) c.self.invariant.sound;
+  sound = subst (IsSoundStore c.self.inside.side) (sym (parts-stay (goal.at.invariant_of-self c).After-forget_killed)) c.self.invariant.sound;
 }
 
 pub returns : goal.returns

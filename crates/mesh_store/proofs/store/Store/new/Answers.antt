@@ -7,7 +7,7 @@ use Rattle.grid.specs.Simplices.{IsTet}
 use Rattle.grid.specs.Views.{corners_of}
 use Rattle.tet_slots.specs.Slots.{SlotLists}
 use Rattle.mesh_store.specs.Parts.{parts_of, mesh_in, parts_from, live_slot}
-use Rattle.mesh_store.specs.Sound.{IsSound}
+use Rattle.mesh_store.specs.Sound.{IsSoundStore}
 use Rattle.mesh_store.proofs.FirstMesh.{sound-first, mesh-first}
 use Rattle.mesh_store.proofs.Forgetting.{CanForget-none, CanRevive-none}
 use Rattle.mesh_store.proofs.PieceLemmas.{All-unmap}
@@ -47,7 +47,7 @@ invariant_of-result c =
       leave = rw c.new.ensures tt;
       forget = rw c.new.ensures (CanForget-none c.settle.new.self (CanRevive-none c.settle.new.self (one-each c)));
       none = λ _. c.new.ensures;
-      sound = rw side (subst (IsSound c.args.side) (sym (parts-are c)) (sound-first c.args.side c.args.mesh.now c.requires));
+      sound = rw side (subst (IsSoundStore c.args.side) (sym (parts-are c)) (sound-first c.args.side c.args.mesh.now c.requires));
     }
 
 pub returns-clause-mesh : goal.returns-clause-mesh

@@ -1,7 +1,7 @@
 use Rattle.std.proofs.Common.{◌≡◌, ℕ, ◌<◌, ◌∙◌, ap, subst, length, List}
 use Rattle.std.specs.List.{list_any}
-use Rattle.std.specs.Str.{bytes_eq}
 use Rattle.grid.specs.Limits.{most_made}
+use Rattle.grid.specs.Simplices.{same_triple}
 use Rattle.tet_slots.specs.declared.slot.Slot.{Slot}
 use Rattle.tracked.specs.Keys.{Keys}
 use Rattle.mesh_store.specs.Changes.{slots_split, triple_pieces}
@@ -37,6 +37,6 @@ returns-clause-ok c =
       points = split.points ∙ ap (λ (v : StoreView). v.parts.points) made;
       slots = split.slots ∙ slots-are (goal.at.returns-clause-ok c).In_ok-make_points;
       faces = λ t. split.faces t
-          ∙ (ap (λ (k : ℕ). list_any (bytes_eq t) (triple_pieces c.args.cuts.now k (tracked_in c.make_points.new.self.parts.keys))) (first-is (goal.at.returns-clause-ok c).After-make_points)
-          ∙ ap (λ (ks : Keys). list_any (bytes_eq t) (triple_pieces c.args.cuts.now (length c.args.self.now.parts.points) (tracked_in ks))) (ap (λ (v : StoreView). v.parts.keys) made));
+          ∙ (ap (λ (k : ℕ). list_any (same_triple t) (triple_pieces c.args.cuts.now k (tracked_in c.make_points.new.self.parts.keys))) (first-is (goal.at.returns-clause-ok c).After-make_points)
+          ∙ ap (λ (ks : Keys). list_any (same_triple t) (triple_pieces c.args.cuts.now (length c.args.self.now.parts.points) (tracked_in ks))) (ap (λ (v : StoreView). v.parts.keys) made));
     }

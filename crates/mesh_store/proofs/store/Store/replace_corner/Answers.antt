@@ -9,7 +9,7 @@ use Rattle.grid.specs.Views.{corners_of, triples_of}
 use Rattle.tet_slots.specs.declared.slot.Slot.{Slot}
 use Rattle.tet_slots.specs.Searches.{numbers_of, has_corner}
 use Rattle.mesh_store.specs.Parts.{StoreView, tracked_in}
-use Rattle.mesh_store.specs.Sound.{IsSound}
+use Rattle.mesh_store.specs.Sound.{IsSoundStore}
 use Rattle.mesh_store.specs.Changes.{IsGrown}
 use Rattle.mesh_store.specs.Exchanges.{CanKill, IsMoved, at_corner, put_in, tet_in}
 use Rattle.mesh_store.proofs.Killing.{grown-exchanged}
@@ -25,8 +25,8 @@ slots-are c = ap (λ (v : StoreView). v.parts.slots) c.self.view_is
 gone-are : (c : In_ok-having) → c.having.new.into.items ≡ numbers_of (has_corner c.args.u) 0 c.args.self.now.parts.slots
 gone-are c = c.in_ok-having.ensures ∙ ap (numbers_of (has_corner c.args.u) 0) (slots-are c)
 
-sound : (c : In_ok-having) → IsSound c.args.self.now.side c.args.self.now.parts
-sound c = subst (λ (v : StoreView). IsSound v.side v.parts) c.self.view_is c.self.invariant.sound
+sound : (c : In_ok-having) → IsSoundStore c.args.self.now.side c.args.self.now.parts
+sound c = subst (λ (v : StoreView). IsSoundStore v.side v.parts) c.self.view_is c.self.invariant.sound
 
 pub moved_tets-requires : goal.moved_tets-requires
 moved_tets-requires c =

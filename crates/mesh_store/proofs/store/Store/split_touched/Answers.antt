@@ -13,7 +13,7 @@ use Rattle.tet_slots.specs.Searches.{numbers_of}
 use Rattle.mesh_store.specs.Changes.{is_split, IsSplit}
 use Rattle.mesh_store.specs.Exchanges.{CanKill, tet_in}
 use Rattle.mesh_store.specs.Parts.{StoreView, tracked_in}
-use Rattle.mesh_store.specs.Sound.{IsSound}
+use Rattle.mesh_store.specs.Sound.{IsSoundStore}
 use Rattle.mesh_store.proofs.Exchanged.{CanKill-there}
 use Rattle.mesh_store.proofs.LiveSlots.{split-length}
 use Rattle.mesh_store.proofs.PieceLemmas.{All-unmap}
@@ -27,8 +27,8 @@ slots-are c = ap (λ (v : StoreView). v.parts.slots) c.self.view_is
 gone-are : (c : In_ok-gone) → c.in_ok-gone.gone.items ≡ numbers_of (is_split c.args.cuts.now) 0 c.args.self.now.parts.slots
 gone-are c = c.in_ok-gone.ensures ∙ ap (numbers_of (is_split c.args.cuts.now) 0) (slots-are c)
 
-sound : (c : In_ok-gone) → IsSound c.args.self.now.side c.args.self.now.parts
-sound c = subst (λ (v : StoreView). IsSound v.side v.parts) c.self.view_is c.self.invariant.sound
+sound : (c : In_ok-gone) → IsSoundStore c.args.self.now.side c.args.self.now.parts
+sound c = subst (λ (v : StoreView). IsSoundStore v.side v.parts) c.self.view_is c.self.invariant.sound
 
 room : (c : In_ok-gone) → c.args.first + length c.args.cuts.now < 2 ^ 32
 room c = let few = (sound c).points_few in omega (arith, few, c.requires.numbered)

@@ -7,7 +7,7 @@ use Rattle.mesh_types.specs.Results.{first_outside, is_across}
 use Rattle.tet_slots.specs.declared.slot.Slot.{Slot}
 use Rattle.tet_slots.specs.Searches.{numbers_of, has_edge}
 use Rattle.mesh_store.specs.Parts.{StoreView, mesh_in}
-use Rattle.mesh_store.specs.Sound.{IsSound}
+use Rattle.mesh_store.specs.Sound.{IsSoundStore}
 use Rattle.mesh_store.specs.Changes.{AddedAreLive, IsGrown}
 use Rattle.mesh_store.specs.Exchanges.{CanKill, exchanged, has_either, tet_in}
 use Rattle.mesh_store.proofs.Added.{added-exchanged, none-added}
@@ -25,8 +25,8 @@ slots-are c = ap (λ (v : StoreView). v.parts.slots) c.self.view_is
 around-is : (c : In_ok-having2) → c.having2.new.into.items ≡ numbers_of (has_edge c.args.a c.args.b) 0 c.args.self.now.parts.slots
 around-is c = c.in_ok-having2.ensures ∙ ap (numbers_of (has_edge c.args.a c.args.b) 0) (slots-are c)
 
-sound : (c : In_ok-having2) → IsSound c.args.self.now.side c.args.self.now.parts
-sound c = subst (λ (v : StoreView). IsSound v.side v.parts) c.self.view_is c.self.invariant.sound
+sound : (c : In_ok-having2) → IsSoundStore c.args.self.now.side c.args.self.now.parts
+sound c = subst (λ (v : StoreView). IsSoundStore v.side v.parts) c.self.view_is c.self.invariant.sound
 
 there : (c : In_ok-having2) (is : List ℕ) → is ≡ c.having2.new.into.items → All (λ i. i < length c.self.inside.slots.slots) is
 there c is e =
