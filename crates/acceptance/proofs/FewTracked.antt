@@ -6,9 +6,9 @@ use Rattle.std.proofs.lemmas.Int.{ints}
 use Rattle.std.proofs.lemmas.List.Elements.{recursion_from_All}
 use mathlib.Core.Logic.{Ne-symm}
 use Rattle.int_algebra.proofs.Laws.{linear}
-use Rattle.grid.proofs.ForCallers.{count_by-cons_yes, count_by-cons_no}
+use Rattle.grid.proofs.ForCallers.{count_by-cons_yes, count_by-cons_no, has_first, Each-weaker, Each-of_flat_map, Each-both, has-rising}
 use Rattle.grid.specs.Boxes.{IsOnOneSide}
-use Rattle.mesh_types.proofs.ForCallers.{has_first, total, bit, total-swap, count_by-total, Each-weaker, Each-of_flat_map, Each-both, Turn, still, once, twice, turn_of, has-reversed, rotations, same_corners_from, Cornered, number, count-number, number-Ordered, has-rising, cornered_of, IsTri, faces-IsTri, present}
+use Rattle.mesh_types.proofs.ForCallers.{total, bit, total-swap, count_by-total, Turn, still, once, twice, turn_of, has-reversed, rotations, same_corners_from, Cornered, number, count-number, number-Ordered, cornered_of, IsTri, faces-IsTri, present}
 use Rattle.grid.specs.Meshes.{Mesh, Ordered, IsTriple, IsWellFormed, Tiles}
 use Rattle.grid.specs.Simplices.{has, faces, all_faces, is_rotation, count, rising, Rises, has_all, same_corners, IsTet}
 use Rattle.grid.specs.Limits.{most_made}

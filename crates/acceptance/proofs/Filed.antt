@@ -12,7 +12,8 @@ use Rattle.grid.specs.Meshes.{Mesh, IsTriple, IsWellFormed, Ordered, Tiles}
 use Rattle.grid.specs.Simplices.{has, all_faces, rising, IsTet}
 use Rattle.grid.specs.Limits.{largest_side, most_points}
 use Rattle.lines.specs.Fields.{Between, Within}
-use Rattle.mesh_types.proofs.ForCallers.{Each-weaker, Each-both, Each-map, has_first, below_each}
+use Rattle.grid.proofs.ForCallers.{Each-weaker, Each-both, has_first}
+use Rattle.mesh_types.proofs.ForCallers.{Each-map, below_each}
 use Rattle.msh_text.specs.declared.file_mesh.MshNode.{MshNode}
 use Rattle.msh_text.specs.FileMesh.{file_numbers, is_used, node_of, msh_nodes, tet_of, msh_tets, face_of, msh_tracked, msh_of}
 use Rattle.msh_text.specs.Rules.{is_node}

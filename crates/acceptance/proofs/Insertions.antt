@@ -24,7 +24,8 @@ use Rattle.mesh_types.specs.Phases.{points_of, cut_by, section, wanted_cuts}
 use Rattle.mesh_types.specs.Refines.{refine}
 use Rattle.mesh_types.specs.Tracking.{with_tracked, in_order_once}
 use Rattle.mesh_types.specs.Turns.{AreInserted}
-use Rattle.mesh_types.proofs.ForCallers.{Each-weaker, Each-append, Each-map, Each-in_order_once, in_order_once-Ordered}
+use Rattle.grid.proofs.ForCallers.{Each-weaker, Each-append}
+use Rattle.mesh_types.proofs.ForCallers.{Each-map, Each-in_order_once, in_order_once-Ordered}
 use Rattle.cutting_rule.specs.Until.{until}
 use Rattle.cutting_rule.proofs.ForCallers.{wanted_cuts-in, points-in, section-triples, until-well_formed}
 use Rattle.insertion.proofs.ForCallers.{tiles-cut}

@@ -4,7 +4,7 @@ use Rattle.std.specs.List.{count_by, AllByRecursion as Each}
 use Rattle.std.proofs.lemmas.Bool.{cases_Bool, and_parts, or_right}
 use Rattle.std.proofs.lemmas.List.{take_more, take_all}
 use Rattle.std.proofs.lemmas.List.Elements.{All-from_get_or, recursion_from_All}
-use Rattle.grid.proofs.ForCallers.{count_by-cons_no}
+use Rattle.grid.proofs.ForCallers.{count_by-cons_no, Each-weaker, has_first}
 use Rattle.grid.specs.Meshes.{Mesh, IsWellFormed}
 use Rattle.grid.specs.Simplices.{has, count, IsTet}
 use Rattle.mesh_types.specs.declared.tries.Try.{Try}
@@ -16,7 +16,7 @@ use Rattle.mesh_types.specs.declared.tries.TryLine.{TryLine}
 use Rattle.mesh_types.specs.Journals.{line, after, last_mesh, line_at, try_at, mesh_at, FollowRule}
 use Rattle.mesh_types.specs.Tries.{is_candidate, tets_at_edge, tets_at_point}
 use Rattle.mesh_types.specs.Verdicts.{Setting, IsVerdict}
-use Rattle.mesh_types.proofs.ForCallers.{split_is, collapse_is, edge_swap_is, face_swap_is, shift_is, Each-weaker, inside_law, has_first, tries_law, below_each, last-push, candidate-at}
+use Rattle.mesh_types.proofs.ForCallers.{split_is, collapse_is, edge_swap_is, face_swap_is, shift_is, inside_law, tries_law, below_each, last-push, candidate-at}
 use Rattle.report_text.specs.Plain.{IsPlainTry, ArePlainTries}
 use Rattle.acceptance.proofs.Insertions.{IsGoodMesh}
 use Rattle.acceptance.proofs.Corners.{corner_present}

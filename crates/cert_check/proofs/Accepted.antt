@@ -7,7 +7,8 @@ use Rattle.std.proofs.lemmas.Bool.Decides.{Decides-eqb}
 use Rattle.std.proofs.lemmas.List.{length-map, get_or_default}
 use Rattle.std.proofs.lemmas.List.Elements.{All-cons, All-nil, All-from_recursion, Contains-append_cases}
 use Rattle.std.proofs.Math.ListN.{get_or-map}
-use Rattle.mesh_types.proofs.ForCallers.{IsWithin, faces_within, has-rising}
+use Rattle.grid.proofs.ForCallers.{has-rising}
+use Rattle.mesh_types.proofs.ForCallers.{IsWithin, faces_within}
 use Rattle.grid.specs.Boxes.{IsInBox}
 use Rattle.cert_check.specs.Faults.{IsTagOf, tri_of}
 use Rattle.cert_check.specs.Written.{WrittenIsSound}

@@ -16,7 +16,8 @@ use Rattle.grid.specs.Simplices.{all_faces, faces, has, equal3, is_rotation, cou
 use Rattle.grid.specs.Meshes.{Mesh, Tiles}
 use Rattle.face_table.specs.Occurrences.{occurrences}
 use Rattle.face_table.proofs.RotationLemmas.{has-rotation, has3-first, has3-second, has3-third, occurrences-append}
-use Rattle.mesh_types.proofs.ForCallers.{no-face, same_bools}
+use Rattle.grid.proofs.ForCallers.{same_bools}
+use Rattle.mesh_types.proofs.ForCallers.{no-face}
 use Rattle.msh_text.specs.FileMesh.{file_numbers, is_used}
 
 -- lists of corners by the numbers of the file

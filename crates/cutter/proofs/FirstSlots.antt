@@ -19,7 +19,8 @@ use Rattle.grid.specs.declared.shapes.Tri.{Tri}
 use Rattle.grid.specs.Meshes.{Mesh}
 use Rattle.mesh_types.specs.Phases.{wanted_in, wanted, is_unresolved}
 use Rattle.mesh_types.specs.Tracking.{in_order_once}
-use Rattle.mesh_types.proofs.ForCallers.{same_bools, is_among, is_among-in_order_once, equal_to, equal_from}
+use Rattle.grid.proofs.ForCallers.{same_bools}
+use Rattle.mesh_types.proofs.ForCallers.{is_among, is_among-in_order_once, equal_to, equal_from}
 use Rattle.cutting_rule.specs.declared.edge.Edge.{Edge}
 use Rattle.cutting_rule.specs.Edges.{numbers_of}
 use Rattle.cutter.proofs.Near.{AreFrom, all, first, rest}

@@ -6,7 +6,7 @@ use Rattle.std.proofs.lemmas.List.Elements.{All-contains}
 use Rattle.std.proofs.lemmas.List.Folds.{Any-from_list_any, list_any-from_Any}
 use Rattle.grid.specs.declared.shapes.Point.{Point}
 use Rattle.mesh_types.specs.CuttingRule.{ranges_meet, boxes_meet}
-use Rattle.mesh_types.proofs.ForCallers.{same_bools}
+use Rattle.grid.proofs.ForCallers.{same_bools}
 use Rattle.cutting_rule.specs.Bounds.{AreEnds, AreBounds, overlaps, is_met}
 
 pub le-true : (a b : ℤ) → a ≤ℤ b → int_le a b ≡ true

@@ -10,7 +10,8 @@ use Rattle.grid.specs.Meshes.{Mesh, IsTriple}
 use Rattle.grid.specs.Simplices.{faces, all_faces, rising, insert_number, AreDifferent, IsTet}
 use Rattle.grid.specs.Views.{triples_of}
 use Rattle.mesh_types.specs.Phases.{section, is_section_face}
-use Rattle.mesh_types.proofs.ForCallers.{Each-of_flat_map, Each-map, has-rising, rising-Rises, Each-in_order_once}
+use Rattle.grid.proofs.ForCallers.{Each-of_flat_map, has-rising, rising-Rises}
+use Rattle.mesh_types.proofs.ForCallers.{Each-map, Each-in_order_once}
 use Rattle.cutting_rule.proofs.Naming.{all-has, all-index, has-at}
 
 each-code : (P : List ℕ → Type 0) (fs : List Face) → Each P (triples_of fs) → Each (λ (f : Face). P f.0) fs

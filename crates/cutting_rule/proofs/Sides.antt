@@ -8,7 +8,7 @@ use Rattle.std.proofs.lemmas.Int.{ints}
 use Rattle.grid.specs.declared.shapes.Point.{Point}
 use Rattle.grid.specs.declared.shapes.Tri.{Tri}
 use Rattle.grid.specs.Planes.{Plane, side_plane, snap_sign}
-use Rattle.mesh_types.proofs.ForCallers.{same_bools}
+use Rattle.grid.proofs.ForCallers.{same_bools}
 use Rattle.mesh_types.specs.CuttingRule.{lies_below, lies_above, lies_on, splits, reaches, boxes_meet, section_plane, phase_plane, is_wanted, is_crossed}
 
 on-sign : (s : ℤ) → int_eq s (pos 0) ≡ (not (lt_z s (pos 0)) && not (lt_z (pos 0) s))

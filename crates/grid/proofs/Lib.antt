@@ -4,4 +4,7 @@ mod VectorExpressions
 mod Gaps
 mod EdgeLemmas
 mod SideLemmas
+mod Each
+mod Replaced
+mod Rising
 pub mod ForCallers

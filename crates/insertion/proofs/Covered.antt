@@ -10,7 +10,8 @@ use Rattle.grid.specs.Near.{Near}
 use Rattle.mesh_types.specs.Certificates.{HasCertificate}
 use Rattle.mesh_types.specs.Phases.{points_of, section}
 use Rattle.mesh_types.specs.Tracking.{in_order_once, with_tracked}
-use Rattle.mesh_types.proofs.ForCallers.{Each-append, Each-in_order_once}
+use Rattle.grid.proofs.ForCallers.{Each-append}
+use Rattle.mesh_types.proofs.ForCallers.{Each-in_order_once}
 use Rattle.insertion.specs.Bare.{HasNewCorner, IsKept, IsCovered}
 use Rattle.cutting_rule.proofs.ForCallers.{all-has, section-triples}
 use Rattle.cover.proofs.ForCallers.{leaf_law}

@@ -10,7 +10,8 @@ use Rattle.grid.specs.Simplices.{rising, Rises, same_triple}
 use Rattle.mesh_types.specs.declared.cut.Cut.{Cut}
 use Rattle.mesh_types.specs.Phases.{wanted_cuts}
 use Rattle.mesh_types.specs.Refines.{refine, sub_all, is_touched}
-use Rattle.mesh_types.proofs.ForCallers.{Each-weaker, Each-of_flat_map, Each-map, Each-in_order, has-rising, sub_all-untouched, is_among, equal_to, equal_from}
+use Rattle.grid.proofs.ForCallers.{Each-weaker, Each-of_flat_map, has-rising}
+use Rattle.mesh_types.proofs.ForCallers.{Each-map, Each-in_order, sub_all-untouched, is_among, equal_to, equal_from}
 use Rattle.mesh_store.proofs.ForCallers.{rising-risen}
 use Rattle.insertion.proofs.NewPieces.{HasNew, touched-new}
 use Rattle.cutting_rule.specs.Until.{until}

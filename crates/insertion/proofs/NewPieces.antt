@@ -5,7 +5,8 @@ use Rattle.std.proofs.lemmas.Bool.{cases_Bool, and_parts, or_left, or_right, eq-
 use Rattle.grid.specs.Simplices.{has, put, replaced, sub}
 use Rattle.mesh_types.specs.declared.cut.Cut.{Cut}
 use Rattle.mesh_types.specs.Refines.{sub_all, is_touched}
-use Rattle.mesh_types.proofs.ForCallers.{Each-append, Each-of_flat_map, sub-touched, sub-untouched, has_cases, put_cases, has-replaced_new}
+use Rattle.grid.proofs.ForCallers.{Each-append, Each-of_flat_map, has_cases, put_cases, has-replaced_new}
+use Rattle.mesh_types.proofs.ForCallers.{sub-touched, sub-untouched}
 
 -- a corner that is not below k
 pub record HasNew (k : ℕ) (x : List ℕ) : Type 0 where

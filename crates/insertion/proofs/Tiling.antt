@@ -9,7 +9,8 @@ use Rattle.grid.specs.Meshes.{Mesh, IsWellFormed, Weave, Tiles}
 use Rattle.grid.specs.Simplices.{all_faces, rising}
 use Rattle.mesh_types.specs.Phases.{section, is_section_face}
 use Rattle.mesh_types.specs.Tracking.{in_order_once, with_tracked}
-use Rattle.mesh_types.proofs.ForCallers.{Each-append, Each-in_order_once, tiling_law}
+use Rattle.grid.proofs.ForCallers.{Each-append}
+use Rattle.mesh_types.proofs.ForCallers.{Each-in_order_once, tiling_law}
 use Rattle.cutting_rule.specs.Until.{until}
 use Rattle.cutting_rule.proofs.ForCallers.{until-weaves}
 

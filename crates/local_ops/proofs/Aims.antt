@@ -13,7 +13,8 @@ use Rattle.mesh_types.specs.declared.tries.Try.{Try}
 use Rattle.mesh_types.specs.declared.tries.Try.TheVariants.{Split, Shift, Collapse}
 use Rattle.mesh_types.specs.Refines.{is_touched, sub_all, refine}
 use Rattle.mesh_types.specs.Results.{midpoint_floored, middle_cut, target, split, shift, collapse}
-use Rattle.mesh_types.proofs.ForCallers.{Each-passed, Each-weaker, flat_map-none}
+use Rattle.grid.proofs.ForCallers.{Each-weaker}
+use Rattle.mesh_types.proofs.ForCallers.{Each-passed, flat_map-none}
 use Rattle.tet_slots.specs.declared.slot.Slot.{Slot}
 use Rattle.mesh_store.specs.Parts.{Parts, live_tets, mesh_in}
 use Rattle.mesh_store.specs.Sound.{IsSoundStore}

@@ -6,7 +6,8 @@ use Rattle.std.proofs.lemmas.Int.{ints}
 use Rattle.std.specs.Prelude.{nat_eq}
 use Rattle.grid.specs.Simplices.{has, count, faces, is_rotation}
 use Rattle.mesh_types.specs.declared.tries.Try.TheVariants.{Split}
-use Rattle.mesh_types.proofs.ForCallers.{count-append, no-face, count-one, has_first}
+use Rattle.grid.proofs.ForCallers.{has_first}
+use Rattle.mesh_types.proofs.ForCallers.{count-append, no-face, count-one}
 use Rattle.tet_slots.specs.declared.slot.Slot.{Slot}
 use Rattle.tet_slots.specs.Searches.{has_edge, numbers_of}
 use Rattle.mesh_store.specs.Parts.{live_tets}

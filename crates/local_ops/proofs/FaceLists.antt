@@ -4,7 +4,7 @@ use Rattle.std.specs.List.{AllByRecursion as Each}
 use Rattle.std.proofs.lemmas.List.Elements.{All-from_recursion, recursion_from_All}
 use Rattle.grid.specs.declared.shapes.Face.{Face}
 use Rattle.grid.specs.Views.{triples_of}
-use Rattle.mesh_types.proofs.ForCallers.{Each-face}
+use Rattle.grid.proofs.ForCallers.{Each-face}
 
 each-triple : (P : List ℕ → Type 0) (fs : List Face) (d : Face) → ((k : ℕ) → k < length fs → P (get_or fs k d).0) → Each P (triples_of fs)
 each-triple P [] d h = tt

@@ -18,7 +18,8 @@ use Rattle.mesh_types.specs.declared.tries.Why.TheVariants as why
 use Rattle.mesh_types.specs.Journals.{setting}
 use Rattle.mesh_types.specs.Results.{Result, result_of}
 use Rattle.mesh_types.specs.Verdicts.{Setting, Passes, energy_at, largest}
-use Rattle.mesh_types.proofs.ForCallers.{Cornered, Each-filter, Each-weaker, longer_result, IsLonger, cornered_tets}
+use Rattle.grid.proofs.ForCallers.{Each-weaker}
+use Rattle.mesh_types.proofs.ForCallers.{Cornered, Each-filter, longer_result, IsLonger, cornered_tets}
 use Rattle.mesh_store.specs.Parts.{Parts, live_tets, mesh_in}
 use Rattle.mesh_store.specs.Sound.{IsSoundStore}
 use Rattle.mesh_store.proofs.ForCallers.{well_formed}

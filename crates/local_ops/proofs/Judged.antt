@@ -11,7 +11,8 @@ use Rattle.mesh_types.specs.declared.tries.Why.TheVariants as why
 use Rattle.mesh_types.specs.Journals.{setting}
 use Rattle.mesh_types.specs.Results.{Result, result_of}
 use Rattle.mesh_types.specs.Verdicts.{Setting, Passes, energy_at, largest, IsCovered}
-use Rattle.mesh_types.proofs.ForCallers.{Among, among-all, among-Each, among-filter, Each-weaker, Each-both, filter-among}
+use Rattle.grid.proofs.ForCallers.{Each-weaker, Each-both}
+use Rattle.mesh_types.proofs.ForCallers.{Among, among-all, among-Each, among-filter, filter-among}
 use Rattle.tet_slots.specs.Searches.{numbers_of}
 use Rattle.mesh_store.specs.Parts.{StoreView, live_tets, mesh_in}
 use Rattle.mesh_store.proofs.ForCallers.{well_formed}

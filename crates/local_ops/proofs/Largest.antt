@@ -5,7 +5,8 @@ use Rattle.std.specs.List.{AllByRecursion as Each}
 use Rattle.std.proofs.lemmas.Bool.{cases_Bool, ltb-true, ltb-false, le-ltb}
 use Rattle.std.proofs.lemmas.Int.{ints}
 use Rattle.mesh_types.specs.Verdicts.{largest}
-use Rattle.mesh_types.proofs.ForCallers.{Each-weaker, count-none, none_pass, total, bit, count_by-total}
+use Rattle.grid.proofs.ForCallers.{Each-weaker}
+use Rattle.mesh_types.proofs.ForCallers.{count-none, none_pass, total, bit, count_by-total}
 
 module _ (f : List ℕ → ℕ) where
   -- none is above it

@@ -7,7 +7,8 @@ use Rattle.grid.specs.Determinants.{point_at, det, det_at}
 use Rattle.grid.specs.Energy.{energy}
 use Rattle.grid.specs.Simplices.{has, put, replaced, IsTet}
 use Rattle.mesh_types.specs.Verdicts.{energy_at}
-use Rattle.mesh_types.proofs.ForCallers.{Cornered, second, third, fourth, cornered_of, has_first, point_at-append, point_at-new}
+use Rattle.grid.proofs.ForCallers.{has_first}
+use Rattle.mesh_types.proofs.ForCallers.{Cornered, second, third, fourth, cornered_of, point_at-append, point_at-new}
 use Rattle.local_ops.specs.Foreseen.{moved_at, det_with, energy_with}
 
 -- what is told of four points, where they agree below n

@@ -17,7 +17,8 @@ use Rattle.mesh_types.specs.Refines.{is_touched, sub_all, refine}
 use Rattle.mesh_types.specs.Results.{middle_cut, split, shift, collapse}
 use Rattle.mesh_types.specs.Tries.{is_candidate}
 use Rattle.mesh_types.specs.Verdicts.{IsSingle}
-use Rattle.mesh_types.proofs.ForCallers.{Among, among-all, among-filter, Cornered, split_is, Each-passed, filter-parted, found, IsReady, number, count-number, faces-old, total-at_most, Each-weaker, Each-both, Each-of_flat_map, count-same, count-append, count-one, no-face, total-map, all_faces-replaced, replaced_none, Each-map, flat_map-none, has_none, has_none_from, replaced-back, count-rotation, rotations, filter-among, cornered_tets, once-split, bit, total, HaveSameSums, sums-parted, twins-none}
+use Rattle.grid.proofs.ForCallers.{Each-weaker, Each-both, Each-of_flat_map, has_none, has_none_from, replaced-back}
+use Rattle.mesh_types.proofs.ForCallers.{Among, among-all, among-filter, Cornered, split_is, Each-passed, filter-parted, found, IsReady, number, count-number, faces-old, total-at_most, count-same, count-append, count-one, no-face, total-map, all_faces-replaced, replaced_none, Each-map, flat_map-none, count-rotation, rotations, filter-among, cornered_tets, once-split, bit, total, HaveSameSums, sums-parted, twins-none}
 use Rattle.local_ops.specs.Apart.{is_apart, is_apart_from, shares_no_face}
 use Rattle.local_ops.proofs.Ends.{split_ends}
 use Rattle.local_ops.proofs.NewTets.{true-at}

@@ -11,7 +11,8 @@ use Rattle.mesh_types.specs.declared.tries.Try.TheVariants.{Split, Shift, Collap
 use Rattle.mesh_types.specs.Refines.{sub_all, refine}
 use Rattle.mesh_types.specs.Results.{middle_cut, split, target, shift, collapse, first_outside, is_across, swapped_at, swapped_across, swapped_from, face_swap, unhinged_at, unhinged, edge_swap, result_of}
 use Rattle.mesh_types.specs.Tracking.{in_order_once}
-use Rattle.mesh_types.proofs.ForCallers.{Among, among-all, Each-filter, Each-weaker, Each-both, Each-of_flat_map, replaced_none, has-rising, flat_map-none, Each-map, Each-in_order, has-replaced_new, Each-in_order_once}
+use Rattle.grid.proofs.ForCallers.{Each-weaker, Each-both, Each-of_flat_map, has-rising, has-replaced_new}
+use Rattle.mesh_types.proofs.ForCallers.{Among, among-all, Each-filter, replaced_none, flat_map-none, Each-map, Each-in_order, Each-in_order_once}
 use Rattle.mesh_store.proofs.ForCallers.{rising-risen}
 use Rattle.local_ops.specs.Attempts.{pivot_of}
 

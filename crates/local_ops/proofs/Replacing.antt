@@ -11,7 +11,8 @@ use Rattle.mesh_types.specs.declared.tries.Try.{Try}
 use Rattle.mesh_types.specs.declared.tries.Try.TheVariants.{Split, Shift, Collapse, FaceSwap, EdgeSwap}
 use Rattle.mesh_types.specs.Refines.{is_touched, refine}
 use Rattle.mesh_types.specs.Results.{Result, unchanged, without, middle_cut, split, target, shift, collapse, has_face, as_in, first_outside, is_across, swapped_at, swapped_across, swapped_from, face_swap, unhinged_at, unhinged, edge_swap, result_of}
-use Rattle.mesh_types.proofs.ForCallers.{Among, Each-passed, Each-weaker, has-corner, among-without, without-total, has_first, second, third, found_at, total}
+use Rattle.grid.proofs.ForCallers.{Each-weaker, has_first}
+use Rattle.mesh_types.proofs.ForCallers.{Among, Each-passed, has-corner, among-without, without-total, second, third, found_at, total}
 
 -- the tetrahedron may be replaced by the try
 abbrev pub is_near : Try → List ℕ → Bool

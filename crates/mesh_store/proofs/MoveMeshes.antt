@@ -11,7 +11,8 @@ use Rattle.grid.specs.Views.{triples_of}
 use Rattle.grid.specs.Limits.{most_points, most_made}
 use Rattle.mesh_types.specs.Results.{shift, collapse}
 use Rattle.mesh_types.specs.Tracking.{in_order_once}
-use Rattle.mesh_types.proofs.ForCallers.{Each-weaker, ordered_same, in_order_once-Ordered, is_among-in_order_once, below_each}
+use Rattle.grid.proofs.ForCallers.{Each-weaker}
+use Rattle.mesh_types.proofs.ForCallers.{ordered_same, in_order_once-Ordered, is_among-in_order_once, below_each}
 use Rattle.tet_slots.specs.declared.slot.Slot.{Slot}
 use Rattle.tet_slots.proofs.ForCallers.{IsTet-unused}
 use Rattle.tracked.specs.Keys.{faces_in}

@@ -10,7 +10,8 @@ use Rattle.grid.specs.Simplices.{rising, IsTet, same_triple}
 use Rattle.mesh_types.specs.declared.cut.Cut.{Cut}
 use Rattle.mesh_types.specs.CutLists.{IsCutBelow, AreCuts}
 use Rattle.mesh_types.specs.Refines.{sub_all, is_touched, in_order, refine}
-use Rattle.mesh_types.proofs.ForCallers.{Each-weaker, refine-IsTet, is_among, equal_from, equal_to, is_among-in_order, IsEdge, refine-well_formed}
+use Rattle.grid.proofs.ForCallers.{Each-weaker}
+use Rattle.mesh_types.proofs.ForCallers.{refine-IsTet, is_among, equal_from, equal_to, is_among-in_order, IsEdge, refine-well_formed}
 
 -- what holds of all mapped elements
 pub All-unmap : {X Y : Type 0} (P : Y → Type 0) (f : X → Y) (xs : List X) → All P (map f xs) → All (λ x. P (f x)) xs

@@ -11,7 +11,8 @@ use Rattle.grid.specs.Views.{triples_of}
 use Rattle.mesh_types.specs.declared.cut.Cut.{Cut}
 use Rattle.mesh_types.specs.CutLists.{AreCuts}
 use Rattle.mesh_types.specs.Refines.{sub_all, is_touched}
-use Rattle.mesh_types.proofs.ForCallers.{Each-filter, Each-passed, Each-both, Each-of_flat_map, is_among, in_order_once-Ordered}
+use Rattle.grid.proofs.ForCallers.{Each-both, Each-of_flat_map}
+use Rattle.mesh_types.proofs.ForCallers.{Each-filter, Each-passed, is_among, in_order_once-Ordered}
 use Rattle.tet_slots.specs.declared.slot.Slot.{Slot}
 use Rattle.tet_slots.specs.Searches.{numbers_of}
 use Rattle.tracked.specs.Keys.{faces_in}

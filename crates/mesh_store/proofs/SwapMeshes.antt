@@ -8,7 +8,8 @@ use Rattle.grid.specs.Meshes.{Mesh, IsWithinLimits}
 use Rattle.grid.specs.Simplices.{IsTet, has, replaced}
 use Rattle.grid.specs.Limits.{most_made}
 use Rattle.mesh_types.specs.Results.{edge_swap, face_swap, first_outside, has_face, is_across, without}
-use Rattle.mesh_types.proofs.ForCallers.{Each-weaker, IsTet-from, cornered-put, cornered_of, has_first, below_each}
+use Rattle.grid.proofs.ForCallers.{Each-weaker, has_first}
+use Rattle.mesh_types.proofs.ForCallers.{IsTet-from, cornered-put, cornered_of, below_each}
 use Rattle.tet_slots.specs.declared.slot.Slot.{Slot}
 use Rattle.tet_slots.specs.Slots.{no_slot}
 use Rattle.tet_slots.specs.Searches.{numbers_of, has_edge}

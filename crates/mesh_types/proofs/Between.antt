@@ -3,7 +3,7 @@ use Rattle.std.proofs.Common.{◌≡◌, ◌≢◌, ℕ, ◌<◌, List, [], ◌�
 use Rattle.std.proofs.lemmas.Bool.{cases_Bool, and_parts, true≢false}
 use Rattle.grid.specs.Simplices.{has, replaced, equal3, is_rotation, same_corners}
 use Rattle.mesh_types.proofs.Sums.{bit}
-use Rattle.mesh_types.proofs.Replaced.{has_first, has_none, has_none_from, put-same, put-other}
+use Rattle.grid.proofs.ForCallers.{has_first, has_none, has_none_from, put-same, put-other}
 use Rattle.mesh_types.proofs.Pieces.{apart}
 use Rattle.mesh_types.proofs.Opened.{IsOfFaces, excess, AreFour, Opened, place_of, opened_of, shut}
 use Rattle.mesh_types.proofs.Same.{Turn, still, once, twice, turn_of, rotations, same_corners_at, same_corners_from}

@@ -6,7 +6,7 @@ use Rattle.grid.specs.Simplices.{has, faces, all_faces}
 use Rattle.grid.specs.Determinants.{det, point_at, det_at, volume}
 use Rattle.grid.specs.Boxes.{Axis, along_x, along_y, along_z, coordinate}
 use Rattle.mesh_types.proofs.Sums.{total, total-append}
-use Rattle.mesh_types.proofs.Replaced.{has_cases}
+use Rattle.grid.proofs.ForCallers.{has_cases}
 use Rattle.mesh_types.proofs.Opened.{IsOfFaces}
 use Rattle.int_algebra.proofs.Laws.{linear}
 use Rattle.int_algebra.proofs.Ring.{Expression, constant, ◌⊕◌, ◌⊖◌, ◌⊗◌, minus, ring, ring_from, ◌≈◌}

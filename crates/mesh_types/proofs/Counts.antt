@@ -5,7 +5,7 @@ use Rattle.std.proofs.lemmas.Bool.{or_parts, or_from, false_from_ne_true}
 use Rattle.std.proofs.lemmas.List.Concat.{flat_map-append}
 use Rattle.grid.specs.Simplices.{has, replaced, sub, faces, all_faces, is_rotation, count, same_corners}
 use Rattle.mesh_types.proofs.Sums.{total, bit, total-append, total-flat_map, total-same, total-none, count_by-total}
-use Rattle.mesh_types.proofs.Each.{Each-weaker, Each-of_flat_map}
+use Rattle.grid.proofs.ForCallers.{Each-weaker, Each-of_flat_map}
 use Rattle.mesh_types.proofs.Pieces.{IsSameness, IsNew, occurs, occurs-kept, occurs-gone, occurs-at_v, occurs-at_u, occurs-fresh}
 use Rattle.mesh_types.proofs.Opened.{excess}
 use Rattle.mesh_types.proofs.Same.{rotations}

@@ -1,18 +1,15 @@
 -- For callers: corner lists and triples, sums over faces, what refining and a change keep, candidates, journals,
 -- and the laws.
 pub use Rattle.mesh_types.proofs.Sums.{bit, total, total-swap, count_by-total}
-pub use Rattle.mesh_types.proofs.Each.{Each-weaker, Each-both, Each-append, Each-flat_map, Each-of_flat_map, Each-face}
-pub use Rattle.mesh_types.proofs.Replaced.{put_cases, same_bools, has_first, has_cases, has_none, has_none_from, has-replaced_new, replaced-back}
 pub use Rattle.mesh_types.proofs.Same.{Turn, still, once, twice, turn_of, rotation_still, rotations, has-reversed, same_corners_from}
 pub use Rattle.mesh_types.proofs.Corners.{det-four, corner-in}
-pub use Rattle.mesh_types.proofs.Rising.{rises_same, rising-Rises}
 pub use Rattle.mesh_types.proofs.Pieces.{sub-touched, sub-untouched}
 pub use Rattle.mesh_types.proofs.Between.{Cornered}
 pub use Rattle.mesh_types.proofs.Counts.{number, IsReady, faces-old, total-at_most, count-number}
 pub use Rattle.mesh_types.proofs.Volume.{IsTri, faces-IsTri, present}
 pub use Rattle.mesh_types.proofs.Step.{point_at-append, point_at-new, once-split}
 pub use Rattle.mesh_types.proofs.Transfer.{HaveSameSums, sums-parted}
-pub use Rattle.mesh_types.proofs.Refinement.{flat_map-flat_map, flat_map-none, sub_all-untouched, has-rising, Each-map, Each-in_order, cornered_of}
+pub use Rattle.mesh_types.proofs.Refinement.{flat_map-flat_map, flat_map-none, sub_all-untouched, Each-map, Each-in_order, cornered_of}
 pub use Rattle.mesh_types.proofs.Kept.{IsTet-from, refine-IsTet}
 pub use Rattle.mesh_types.proofs.Order.{below_cases, below_trans, below_not, below_or, number-Ordered}
 pub use Rattle.mesh_types.proofs.WellFormed.{below_each, triple_of, rising-IsTriple, IsEdge, refine-well_formed, refine-IsWellFormed}

@@ -9,8 +9,7 @@ use Rattle.grid.specs.Meshes.{Mesh}
 use Rattle.grid.specs.Simplices.{has, sub, AreDifferent, IsTet}
 use Rattle.mesh_types.specs.declared.cut.Cut.{Cut}
 use Rattle.mesh_types.specs.Refines.{sub_all, is_touched, refine}
-use Rattle.mesh_types.proofs.Each.{Each-weaker, Each-append}
-use Rattle.mesh_types.proofs.Replaced.{has_first, has_none_from}
+use Rattle.grid.proofs.ForCallers.{Each-weaker, Each-append, has_first, has_none_from}
 use Rattle.mesh_types.proofs.Between.{Cornered}
 use Rattle.mesh_types.proofs.OneEdge.{cornered-split}
 use Rattle.mesh_types.proofs.Refinement.{cornered_of, flat_map-flat_map, flat_map-none, sub_all-untouched}

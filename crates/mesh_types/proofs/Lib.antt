@@ -1,10 +1,7 @@
 -- sums over lists, and the corners of simplices
 mod Sums
-mod Each
-mod Replaced
 mod Same
 mod Corners
-mod Rising
 -- the split of one edge
 mod Pieces
 mod Opened

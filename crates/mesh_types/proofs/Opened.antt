@@ -4,7 +4,7 @@ use Rattle.std.specs.List.{flat_map}
 use Rattle.std.proofs.lemmas.Bool.{eq-eqb, ne_eqb, and_parts, and_from, false_from_ne_true, true≢false}
 use Rattle.grid.specs.Simplices.{has, sub, faces, all_faces, same_corners}
 use Rattle.mesh_types.proofs.Sums.{total}
-use Rattle.mesh_types.proofs.Replaced.{has_cases}
+use Rattle.grid.proofs.ForCallers.{has_cases}
 use Rattle.mesh_types.proofs.Pieces.{sub-untouched}
 use Rattle.int_algebra.proofs.Laws.{linear}
 use mathlib.Core.Logic.{Ne-symm}

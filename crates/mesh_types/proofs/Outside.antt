@@ -11,7 +11,7 @@ use Rattle.grid.specs.Determinants.{IsPositive, det_at, volume}
 use Rattle.grid.specs.Regions.{IsOutside, starts, goes_on}
 use Rattle.mesh_types.specs.Outside.{AllOutsideLaw}
 use Rattle.mesh_types.proofs.Sums.{total, bit, total-flat_map, total-same, total-none}
-use Rattle.mesh_types.proofs.Each.{Each-weaker, Each-both, Each-append, Each-of_flat_map}
+use Rattle.grid.proofs.ForCallers.{Each-weaker, Each-both, Each-append, Each-of_flat_map}
 use Rattle.mesh_types.proofs.Same.{turn_of, rotation_from, turn_back}
 use Rattle.mesh_types.proofs.Between.{Cornered}
 use Rattle.mesh_types.proofs.Counts.{number, count-number}

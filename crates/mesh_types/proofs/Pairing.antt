@@ -6,8 +6,7 @@ use Rattle.grid.specs.declared.shapes.Point.{Point}
 use Rattle.grid.specs.Simplices.{has, replaced, sub, all_faces, reversed, count}
 use Rattle.grid.specs.Determinants.{volume}
 use Rattle.mesh_types.proofs.Sums.{total, total-flat_map, total-same, total-plus, total-none}
-use Rattle.mesh_types.proofs.Each.{Each-weaker}
-use Rattle.mesh_types.proofs.Replaced.{has_first, has-replaced_new}
+use Rattle.grid.proofs.ForCallers.{Each-weaker, has_first, has-replaced_new}
 use Rattle.mesh_types.proofs.Pieces.{sub-touched, sub-untouched}
 use Rattle.mesh_types.proofs.Opened.{excess}
 use Rattle.mesh_types.proofs.Same.{rotations, rotation_once, has-reversed}

@@ -3,7 +3,7 @@ use Rattle.std.proofs.Common.{◌≡◌, ◌≢◌, ℕ, List, [], ◌∷◌, Bo
 use Rattle.std.proofs.lemmas.Bool.{cases_Bool, and_parts, and_from, and_left, and_right, cond-true, cond-false, false_from_ne_true, true≢false}
 use Rattle.grid.specs.Simplices.{has, replaced, sub}
 use Rattle.mesh_types.proofs.Sums.{total, bit}
-use Rattle.mesh_types.proofs.Replaced.{same_bools, has-replaced_new, has-replaced_old, has-replaced_other, replaced-back}
+use Rattle.grid.proofs.ForCallers.{same_bools, has-replaced_new, has-replaced_old, has-replaced_other, replaced-back}
 use Rattle.int_algebra.proofs.Laws.{linear}
 
 -- a test of sameness that replacing keeps, and whose sides have the same corners

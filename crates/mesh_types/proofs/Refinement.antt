@@ -1,5 +1,5 @@
 -- Refinement keeps that a mesh weaves.
-use Rattle.std.proofs.Common.{◌≡◌, ℕ, ◌+◌, ◌<◌, List, [], ◌∷◌, ◌++◌, map, length, append_assoc, Bool, true, false, not, ◌&&◌, ◌||◌, eqb, ltb, ap, refl, sym, subst, ◌∙◌, arith, inl, inr}
+use Rattle.std.proofs.Common.{◌≡◌, ℕ, ◌+◌, ◌<◌, List, [], ◌∷◌, ◌++◌, map, length, append_assoc, true, false, not, ◌&&◌, ap, refl, sym, subst, ◌∙◌, arith, inl, inr}
 use Rattle.std.specs.List.{flat_map, filter, All, AllByRecursion as Each}
 use Rattle.std.proofs.lemmas.Bool.{cases_Bool, or_parts, true≢false}
 use Rattle.std.proofs.lemmas.List.{append-nil, length-append}
@@ -8,15 +8,14 @@ use Rattle.std.proofs.lemmas.List.Elements.{All-from_recursion, recursion_from_A
 use native.Mathlib.Nat.{ne_of_lt}
 use mathlib.Core.Logic.{Ne-symm}
 use Rattle.grid.specs.declared.shapes.Point.{Point}
-use Rattle.grid.specs.Simplices.{insert_number, rising, has, sub, all_faces, same_corners, AreDifferent, IsTet}
+use Rattle.grid.specs.Simplices.{rising, has, sub, all_faces, same_corners, AreDifferent, IsTet}
 use Rattle.grid.specs.Boxes.{IsOn}
 use Rattle.grid.specs.Meshes.{Mesh, is_below}
 use Rattle.mesh_types.proofs.Woven.{Woven}
 use Rattle.mesh_types.specs.declared.cut.Cut.{Cut}
 use Rattle.mesh_types.specs.Refines.{sub_all, is_touched, insert_triple, in_order, refine, IsCutOf}
-use Rattle.mesh_types.proofs.Each.{Each-weaker}
+use Rattle.grid.proofs.ForCallers.{Each-weaker, same_bools, has_cases, has_none, has-rising}
 use Rattle.mesh_types.proofs.Pieces.{sub-untouched}
-use Rattle.mesh_types.proofs.Replaced.{same_bools, has_cases, has_none}
 use Rattle.mesh_types.proofs.Same.{same_corners_at, same_corners_from}
 use Rattle.mesh_types.proofs.Between.{Cornered}
 use Rattle.mesh_types.proofs.Step.{point_at-append}
@@ -67,24 +66,6 @@ weaves-all points ts tracked l (e ∷ es) c h w =
         rw (← flat_map-flat_map (sub e.u e.v (length points)) (sub_all k' es) ts, ← flat_map-flat_map (sub e.u e.v (length points)) (sub_all k' es) tracked)
         (subst (λ n. Woven points' (flat_map (sub_all n es) (flat_map (sub e.u e.v (length points)) ts)) (flat_map (sub_all n es) (flat_map (sub e.u e.v (length points)) tracked)) l) q
         (subst (λ ps. Woven ps (flat_map (sub_all m es) (flat_map (sub e.u e.v (length points)) ts)) (flat_map (sub_all m es) (flat_map (sub e.u e.v (length points)) tracked)) l) p w))
-
--- ---- rising order keeps the corners
-pub has-insert_number : (a : ℕ) (x : List ℕ) (c : ℕ) → has (insert_number a x) c ≡ has (a ∷ x) c
-has-insert_number a [] c = refl
-has-insert_number a (b ∷ x) c = elim (cases_Bool (ltb b a)) [
-  | inl h ↦ rw h (ap (λ t. eqb b c || t) (has-insert_number a x c) ∙ swap (eqb a c) (eqb b c) (has x c))
-  | inr h ↦ rw h
-]
-  where
-    swap : (p q r : Bool) → (q || (p || r)) ≡ (p || (q || r))
-    swap true true r = refl
-    swap true false r = refl
-    swap false true r = refl
-    swap false false r = refl
-
-pub has-rising : (x : List ℕ) (c : ℕ) → has (rising x) c ≡ has x c
-has-rising [] c = refl
-has-rising (a ∷ x) c = has-insert_number a (rising x) c ∙ ap (λ t. eqb a c || t) (has-rising x c)
 
 pub same_corners-rising : (x f : List ℕ) → same_corners (rising x) f ≡ same_corners x f
 same_corners-rising x f = same_bools (same_corners (rising x) f) (same_corners x f)

@@ -2,9 +2,8 @@
 use Rattle.std.proofs.Common.{◌≡◌, ◌≢◌, ◌⊎◌, ℕ, List, [], ◌∷◌, Bool, true, false, ◌&&◌, ◌||◌, eqb, ap, refl, sym, subst, ◌∙◌, inl, inr}
 use Rattle.std.proofs.lemmas.Bool.{eq-eqb, eqb-true, and_parts, and_from, or_cases, or_left, or_right, true≢false}
 use Rattle.grid.specs.Simplices.{has, put, replaced, equal3, is_rotation, reversed, has_all, same_corners}
-use Rattle.mesh_types.proofs.Replaced.{same_bools, has_cases, put_cases, has-replaced_new}
 use Rattle.mesh_types.proofs.Pieces.{IsSameness}
-use Rattle.grid.proofs.ForCallers.{equal3-refl}
+use Rattle.grid.proofs.ForCallers.{equal3-refl, same_bools, has_cases, put_cases, has-replaced_new}
 
 -- ---- rotations
 equal3_parts : (a b c u v w : ℕ) → equal3 a b c u v w ≡ true → (a ≡ u) × (b ≡ v) × (c ≡ w)

@@ -10,7 +10,7 @@ use Rattle.grid.specs.Determinants.{origin, point_at}
 use Rattle.grid.specs.Boxes.{Side, IsOn, IsOnOneSide}
 use Rattle.mesh_types.specs.Refines.{IsCutOf}
 use Rattle.mesh_types.proofs.Sums.{count_by-total}
-use Rattle.mesh_types.proofs.Replaced.{has-replaced_new}
+use Rattle.grid.proofs.ForCallers.{has-replaced_new}
 use Rattle.mesh_types.proofs.Pieces.{kept, gone, at_v, at_u, fresh, kind_of}
 use Rattle.mesh_types.proofs.Same.{has-reversed, corner_sets, has-replaced_stays}
 use Rattle.mesh_types.proofs.Counts.{IsReady, old_tets, between-at_most, between-reversed, number-kept, number-gone, number-at_v, number-at_u, number-fresh, count-kept, count-gone, count-at_v, count-at_u, count-fresh}

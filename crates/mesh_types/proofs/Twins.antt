@@ -9,8 +9,7 @@ use Rattle.grid.specs.Simplices.{has, faces, is_rotation, count, same_corners, I
 use Rattle.grid.specs.Determinants.{point_at, det_at}
 use Rattle.mesh_types.specs.Refines.{TilingLaw}
 use Rattle.mesh_types.proofs.Sums.{total, bit, total-flat_map, count_by-total}
-use Rattle.mesh_types.proofs.Each.{Each-weaker, Each-both}
-use Rattle.mesh_types.proofs.Replaced.{has_first}
+use Rattle.grid.proofs.ForCallers.{Each-weaker, Each-both, has_first}
 use Rattle.mesh_types.proofs.Opened.{AreFour, Place, first, second, third, fourth, place_of}
 use Rattle.mesh_types.proofs.Same.{rotation_still, same_corners_at}
 use Rattle.mesh_types.proofs.Between.{Cornered, is_face, is_face-turned, bit-at_least}

@@ -6,7 +6,7 @@ use Rattle.grid.specs.Simplices.{all_faces, rising, IsTet}
 use Rattle.grid.specs.Meshes.{Mesh, IsTriple, IsWellFormed, Weave}
 use Rattle.mesh_types.specs.Refines.{refine, RefinementLaw}
 use Rattle.mesh_types.proofs.Woven.{Woven}
-use Rattle.mesh_types.proofs.Each.{Each-weaker, Each-both}
+use Rattle.grid.proofs.ForCallers.{Each-weaker, Each-both}
 use Rattle.mesh_types.proofs.Between.{Cornered}
 use Rattle.mesh_types.proofs.Tracked.{IsFaceOf}
 use Rattle.mesh_types.proofs.Refinement.{cornered_of, refine-Woven}

@@ -10,7 +10,8 @@ use Rattle.grid.specs.Meshes.{Mesh, IsWellFormed}
 use Rattle.grid.specs.Simplices.{has}
 use Rattle.mesh_types.specs.Results.{neighbours}
 use Rattle.mesh_types.specs.Tries.{tets_at_edge, tets_at_point}
-use Rattle.mesh_types.proofs.ForCallers.{Among, among-all, Cornered, second, found, Each-both, has_first, cornered_tets}
+use Rattle.grid.proofs.ForCallers.{Each-both, has_first}
+use Rattle.mesh_types.proofs.ForCallers.{Among, among-all, Cornered, second, found, cornered_tets}
 use Rattle.plain_ops.specs.Targets.{is_neighbour}
 use Rattle.plain_ops.proofs.SingleFaces.{counted-at}
 

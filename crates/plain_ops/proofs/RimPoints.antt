@@ -8,7 +8,8 @@ use Rattle.grid.specs.Meshes.{Mesh, IsTriple}
 use Rattle.grid.specs.Rims.{IsRim, triples_at}
 use Rattle.grid.specs.Simplices.{has}
 use Rattle.mesh_types.specs.Verdicts.{KeepsSurface}
-use Rattle.mesh_types.proofs.ForCallers.{found, Each-weaker, below_each}
+use Rattle.grid.proofs.ForCallers.{Each-weaker}
+use Rattle.mesh_types.proofs.ForCallers.{found, below_each}
 use Rattle.plain_ops.specs.Befores.{is_rim_edge, StaysOnSurface, FallsOnAnother, AreApart}
 
 -- ---- rim points

@@ -4,13 +4,13 @@ use Rattle.std.specs.Prelude.{nat_lt, count_by}
 use Rattle.std.specs.List.{AllByRecursion as Each, list_all}
 use Rattle.std.proofs.lemmas.Bool.{cases_Bool, and_from, le-ltb, lt-ltb}
 use Rattle.std.proofs.Math.Seq.{drop-cons}
-use Rattle.grid.proofs.ForCallers.{count_by-cons_yes, count_by-cons_no}
+use Rattle.grid.proofs.ForCallers.{count_by-cons_yes, count_by-cons_no, Each-append, Each-both, Each-weaker}
 use Rattle.grid.specs.declared.shapes.Face.{Face}
 use Rattle.grid.specs.Views.{triples_of}
 use Rattle.grid.specs.Simplices.{faces, all_faces, is_rotation, count}
 use Rattle.mesh_types.specs.Results.{Result}
 use Rattle.mesh_types.specs.Verdicts.{IsSingle}
-use Rattle.mesh_types.proofs.ForCallers.{Among, among-all, Each-append, Each-both, Each-weaker, single_test, rotation_still}
+use Rattle.mesh_types.proofs.ForCallers.{Among, among-all, single_test, rotation_still}
 use Rattle.plain_ops.specs.Afters.{has_single_faces}
 
 -- ---- joined lists

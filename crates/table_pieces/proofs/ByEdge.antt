@@ -3,7 +3,7 @@ use Rattle.std.proofs.Common.{◌≡◌, ◌⊎◌, ◌<◌, Bool, true, false, 
 use Rattle.std.specs.List.{flat_map, filter, AllByRecursion as Each}
 use Rattle.std.proofs.lemmas.Bool.{and_parts, or_cases, eqb-true, true≢false}
 use Rattle.cut_tables.specs.Cutting.{RankEdge}
-use Rattle.mesh_types.proofs.ForCallers.{Each-weaker}
+use Rattle.grid.proofs.ForCallers.{Each-weaker}
 use Rattle.table_pieces.specs.Labels.{joins}
 
 -- each is before the later ones

@@ -4,7 +4,7 @@ use Rattle.std.specs.List.{flat_map, filter, AllByRecursion as Each}
 use Rattle.std.proofs.lemmas.Bool.{and_parts, or_cases, or_left, or_right, eqb-true, eq-eqb, true≢false}
 use Rattle.grid.specs.Simplices.{has}
 use Rattle.cut_tables.specs.Cutting.{RankEdge, edge, all_edges, edges_of, has_label, pieces_of, split_in_turn}
-use Rattle.mesh_types.proofs.ForCallers.{Each-weaker, same_bools}
+use Rattle.grid.proofs.ForCallers.{Each-weaker, same_bools}
 use Rattle.table_pieces.specs.Labels.{arranged, renamed, IsLookedUp}
 use Rattle.table_pieces.proofs.Renaming.{IsInjectiveOn}
 use Rattle.table_pieces.proofs.Places.{IsArrangement, has-arranged}

@@ -7,7 +7,8 @@ use Rattle.grid.specs.Simplices.{has, rising, Rises, IsTet}
 use Rattle.mesh_types.specs.declared.cut.Cut.{Cut}
 use Rattle.mesh_types.specs.CutLists.{AreCuts}
 use Rattle.mesh_types.specs.Refines.{sub_all}
-use Rattle.mesh_types.proofs.ForCallers.{Each-filter, Each-passed, Each-weaker, Each-both, has_cases, has-rising, rising-Rises}
+use Rattle.grid.proofs.ForCallers.{Each-weaker, Each-both, has_cases, has-rising, rising-Rises}
+use Rattle.mesh_types.proofs.ForCallers.{Each-filter, Each-passed}
 use Rattle.pieces.proofs.SplitLemmas.{no_cut}
 use Rattle.cut_tables.specs.Cutting.{RankEdge, all_edges, edges_of, has_label, pieces_of}
 use Rattle.table_pieces.specs.Labels.{AreLabels, ArePlaces, arranged, IsLookedUp, number_at, numbered, renamed}

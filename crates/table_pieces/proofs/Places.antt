@@ -4,7 +4,7 @@ use Rattle.std.specs.List.{flat_map, AllByRecursion as Each}
 use Rattle.std.proofs.lemmas.Bool.{or_cases, or_left, or_right, eqb-true, eq-eqb, true≢false}
 use Rattle.grid.specs.Simplices.{has, put, replaced, sub}
 use Rattle.cut_tables.specs.Cutting.{RankEdge, split_in_turn}
-use Rattle.mesh_types.proofs.ForCallers.{same_bools}
+use Rattle.grid.proofs.ForCallers.{same_bools}
 use Rattle.table_pieces.specs.Labels.{arranged}
 use Rattle.table_pieces.proofs.Renaming.{through_each, either_way}
 

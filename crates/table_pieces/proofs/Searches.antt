@@ -8,7 +8,8 @@ use Rattle.std.proofs.lemmas.List.Elements.{AllWithin-more}
 use Rattle.grid.specs.Meshes.{is_below, Ordered}
 use Rattle.mesh_types.specs.declared.cut.Cut.{Cut}
 use Rattle.mesh_types.specs.CutLists.{ends_of}
-use Rattle.mesh_types.proofs.ForCallers.{below_cases, below_not, below_trans, same_bools}
+use Rattle.grid.proofs.ForCallers.{same_bools}
+use Rattle.mesh_types.proofs.ForCallers.{below_cases, below_not, below_trans}
 use Rattle.table_pieces.specs.Labels.{AreBefore, IsPlace, edge_at, is_before, joins, numbered}
 
 -- ---- both ends as one number

@@ -4,7 +4,8 @@ use Rattle.std.specs.List.{filter, AllByRecursion as Each}
 use Rattle.std.proofs.lemmas.Bool.{or_left, or_right, eq-eqb}
 use Rattle.grid.specs.Simplices.{has}
 use Rattle.cut_tables.specs.Cutting.{RankEdge, all_edges, edges_of, has_label, labels_of, pieces_of, split_in_turn}
-use Rattle.mesh_types.proofs.ForCallers.{Each-weaker, Each-filter}
+use Rattle.grid.proofs.ForCallers.{Each-weaker}
+use Rattle.mesh_types.proofs.ForCallers.{Each-filter}
 use Rattle.table_pieces.specs.Labels.{arranged, renamed}
 use Rattle.table_pieces.proofs.Renaming.{IsInjectiveOn, HasNames, split-renamed}
 use Rattle.table_pieces.proofs.Places.{IsArrangement, split-arranged}

@@ -1,4 +1,4 @@
-use Rattle.std.proofs.Common.{◌≡◌, ◌∙◌, ◌++◌, ◌&&◌, [], Bool, false, cond, sym, ap}
+use Rattle.std.proofs.Common.{◌≡◌, ◌∙◌, ◌++◌, [], Bool, false, cond, sym, ap}
 use Rattle.std.proofs.lemmas.Bool.{and_left, and_right}
 use Rattle.std.proofs.lemmas.List.{append-nil}
 use Rattle.grid.specs.Limits.{largest_side}
@@ -6,7 +6,7 @@ use Rattle.mesh_types.specs.Phases.{points_of}
 use Rattle.tet_slots.specs.Slots.{slot_at}
 use Rattle.cutting_rule.specs.Bounds.{is_met}
 use Rattle.cutting_rule.proofs.ForCallers.{points-in}
-use Rattle.cutter.specs.Found.{picked, picked_of}
+use Rattle.cutter.specs.Found.{picked}
 use Rattle.cutter.proofs.touching.push_if_near.Goals as goal
 
 pub push_if_touched-requires : goal.push_if_touched-requires

@@ -4,7 +4,8 @@ use Rattle.std.proofs.lemmas.List.Kept.{Contains-dedup, Contains-from_dedup, IsS
 use Rattle.std.proofs.lemmas.List.Sorted.{Contains-permutation, IsPermutation-sym}
 use Rattle.std.proofs.lemmas.Map.Text.{is_eq-slice_cmp}
 use Rattle.grid.specs.Views.{triples_of}
-use Rattle.mesh_types.proofs.ForCallers.{is_among, same_bools}
+use Rattle.grid.proofs.ForCallers.{same_bools}
+use Rattle.mesh_types.proofs.ForCallers.{is_among}
 use Rattle.tracked.proofs.ForCallers.{same-equal, same_face-IsEquivalence, face_cmp-total, Ordered-sorted}
 use Rattle.mesh_store.specs.Changes.{face_of}
 use Rattle.mesh_store.proofs.FaceSearches.{Contains-among, among-Contains}

@@ -1,7 +1,7 @@
 use Rattle.std.proofs.Common.{ℕ, List, ◌++◌, ◌∙◌, ap, map, subst, sym}
 use Rattle.grid.specs.Simplices.{Rises}
 use Rattle.grid.specs.Views.{corners_of}
-use Rattle.mesh_types.proofs.ForCallers.{rising-Rises}
+use Rattle.grid.proofs.ForCallers.{rising-Rises}
 use Rattle.table_pieces.specs.Labels.{arranged, number_at}
 use Rattle.table_pieces.proofs.Names.{pieces-are}
 use Rattle.table_pieces.proofs.Rows.{row-few, row-is}
