@@ -1,3 +1,4 @@
+// The laws: what the mesher makes is accepted by the check.
 ghost use Rattle.acceptance.specs.Accepted.{AcceptedLaw, FewTrackedLaw, OffTheBoxLaw};
 ghost use Rattle.acceptance.specs.InFolder.{FoundGoodLaw};
 

@@ -1,3 +1,4 @@
+// The lattice of tetrahedra that fills the box.
 ghost use Rattle.std.specs.Prelude.{◌≡◌, ℕ, pos, ◌+◌, ◌*◌, ◌<◌, ◌≤◌, ◌≤ℤ◌, ◌∷◌, [], ◌++◌, All, length, nat_abs, IfOk};
 ghost use Rattle.grid.specs.Boxes.{IsInBox};
 ghost use Rattle.grid.specs.Limits.{IsCells, IsSide, largest_side};

@@ -1,3 +1,4 @@
+// The lattice of one cell, and of two along an axis.
 use crate::lattice;
 use grid::{Memory, Point, Tet};
 

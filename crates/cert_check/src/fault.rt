@@ -1,3 +1,4 @@
+// What can be wrong with a mesh file and its report.
 use grid::Face;
 
 /// What is wrong with a mesh file or its report, in the order in which `verify` looks for it.

@@ -1,3 +1,4 @@
+// The head of a report, against the soup's box and the digits.
 ghost use Rattle.std.specs.Prelude.{◌≡◌, ◌↔◌, IsTrue, ℕ, Option};
 ghost use Rattle.cert_check.specs.Faults.{IsHeader};
 

@@ -1,3 +1,4 @@
+// The laws: a case has one finding, and what is sound or was written is good.
 ghost use Rattle.cert_check.specs.Laws.{OneFinding, SoundIsGood};
 ghost use Rattle.cert_check.specs.Written.{WrittenIsSound};
 

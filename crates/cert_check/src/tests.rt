@@ -1,3 +1,4 @@
+// The box and its report, and faults in them.
 ghost use Rattle.std.specs.Prelude.{IfOk};
 ghost use Rattle.cert_check.specs.Conditions.{IsPlaced};
 

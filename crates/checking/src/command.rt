@@ -1,3 +1,4 @@
+// The command `check`, from its files to its status.
 ghost use Rattle.std.specs.Prelude.{◌≡◌, IfOk};
 ghost use Rattle.cert_check.specs.Faults.{IsFinding};
 ghost use Rattle.cert_check.specs.Sound.{IsSound};

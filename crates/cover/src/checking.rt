@@ -1,3 +1,4 @@
+// Whether a certificate is one of a face.
 ghost use Rattle.grid.specs.Limits.{largest_side, most_epsilon};
 ghost use Rattle.std.specs.Prelude.{◌≡◌, ◌↔◌, ◌≤◌, ◌+◌, ◌^◌, All, IsTrue};
 ghost use Rattle.grid.specs.Boxes.{IsTriInBox};

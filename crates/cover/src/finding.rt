@@ -1,3 +1,4 @@
+// The search for the certificate of a face.
 ghost use Rattle.grid.specs.Limits.{largest_side, most_epsilon};
 ghost use Rattle.std.specs.Prelude.{◌≡◌, ◌↔◌, ◌≤◌, ◌+◌, ◌^◌, IsTrue, IfOk};
 ghost use Rattle.grid.specs.Boxes.{IsTriInBox};

@@ -1,3 +1,4 @@
+// The four pieces of a face between its corners and the midpoints of its edges.
 ghost use Rattle.std.specs.Prelude.{◌≡◌, ◌+◌, ◌^◌, ◌<◌, All};
 ghost use Rattle.grid.specs.Boxes.{IsInBox, IsTriInBox};
 ghost use Rattle.mesh_types.specs.Certificates.{midpoint, pieces};

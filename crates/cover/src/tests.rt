@@ -1,3 +1,4 @@
+// Certificates over one triangle and over two.
 ghost use Rattle.std.specs.Prelude.{◌≡◌, pos};
 
 use crate::{check, covered, find};

@@ -1,3 +1,4 @@
+// The table of pieces, by the set of edges that are cut.
 ghost use Rattle.cut_tables.specs.Cutting.{IsTwoSided, pieces_of, IsLabelled};
 ghost use Rattle.std.specs.Prelude.{[], All, IsTrue, length, replicate, ◌++◌, ◌-◌, ◌<◌, ◌∷◌, ◌≡◌, ◌↔◌, ◌≤◌};
 

@@ -1,3 +1,4 @@
+// Rows of the table.
 use crate::{PieceList, pieces, two_sided};
 use std::test::Fail;
 

@@ -12,7 +12,10 @@ ghost use Rattle.std.specs.Ordering.{int_eq};
 ghost use Rattle.std.specs.Prelude.{All, List, [], map, not, pos, ◌&&◌, ◌<◌, ◌∷◌, ◌≡◌};
 
 use crate::bounds::{Bounds, bounds_of};
-use crate::signs::{Snapped, all_above, are_on, corner_signs, is_crossed, is_on, may_want_along, signs_of, snap_corners};
+use crate::signs::{
+    Snapped, all_above, are_on, corner_signs, is_crossed, is_on, may_want_along, signs_of,
+    snap_corners,
+};
 use crate::spread::{length_above, longest, spread_box};
 use crate::touch::Touch;
 use grid::{Point, Tri};

@@ -1,3 +1,4 @@
+// Intervals and boxes, and how far a point lies from them.
 ghost use Rattle.grid.specs.Limits.{largest_side};
 ghost use Rattle.std.specs.Prelude.{◌≡◌, ◌≤◌, ◌^◌, ◌≤ℤ◌};
 ghost use Rattle.int_algebra.specs.Within.{IsWithin};

@@ -1,3 +1,4 @@
+// Distances along an axis, at a scale.
 ghost use Rattle.grid.specs.Limits.{largest_side};
 ghost use Rattle.std.specs.Prelude.{◌≡◌, ◌^◌, ◌+ℤ◌, ◌*ℤ◌};
 ghost use Rattle.int_algebra.specs.Within.{IsWithin};

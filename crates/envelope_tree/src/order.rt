@@ -1,3 +1,4 @@
+// The order of triangles along a curve through space.
 ghost use Rattle.grid.specs.Limits.{largest_side};
 ghost use Rattle.std.specs.Prelude.{◌≡◌, ◌≤◌, ◌<◌, ◌^◌, ◌+◌, ℕ, All, Contains, IfOk, length, map};
 ghost use Rattle.grid.specs.Boxes.{IsTriInBox};

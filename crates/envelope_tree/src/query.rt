@@ -1,3 +1,4 @@
+// Three points, for which the tree is asked.
 ghost use Rattle.grid.specs.Limits.{largest_side, most_epsilon};
 ghost use Rattle.std.specs.Prelude.{◌≡◌, ◌↔◌, ◌≤◌, ◌<◌, ◌+◌, ◌*◌, ◌^◌, ◌⊎◌, pos, All, IsTrue, length, ◌≤ℤ◌, ◌<ℤ◌};
 ghost use Rattle.int_algebra.specs.Within.{IsWithin};

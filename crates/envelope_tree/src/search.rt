@@ -1,3 +1,4 @@
+// The walk through the tree.
 ghost use Rattle.grid.specs.Limits.{largest_side};
 ghost use Rattle.std.specs.Prelude.{◌↔◌, ◌≤◌, ◌^◌, ◌⊎◌, All, IsTrue, IfSome, IfNone, length};
 ghost use Rattle.grid.specs.Boxes.{IsTriInBox};

@@ -1,3 +1,4 @@
+// What a node of the tree tells of the triangles below it.
 ghost use Rattle.grid.specs.Limits.{largest_side};
 ghost use Rattle.std.specs.Prelude.{◌≡◌, ℕ, ◌<◌, List, All, length};
 ghost use Rattle.grid.specs.declared.shapes.Tri.{Tri};

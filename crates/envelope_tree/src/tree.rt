@@ -1,3 +1,4 @@
+// The nodes of the tree, and how they are made.
 ghost use Rattle.grid.specs.Limits.{largest_side};
 ghost use Rattle.std.specs.Prelude.{◌≡◌, ◌^◌, ◌+◌, ◌<◌, ◌≤◌, ℕ, [], length, All, IfOk};
 ghost use Rattle.grid.specs.Boxes.{IsTriInBox};

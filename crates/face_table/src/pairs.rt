@@ -1,3 +1,4 @@
+// Whether the oriented faces of tetrahedra pair.
 ghost use Rattle.std.specs.Prelude.{◌≡◌, ◌↔◌, ℕ, ◌<◌, pos, ◌++◌, [], length, map, All, IfOk, IsTrue, MatchOption};
 ghost use Rattle.grid.specs.Simplices.{all_faces, faces};
 ghost use Rattle.grid.specs.Views.{corners_of, triples_of};

@@ -1,3 +1,4 @@
+// Counts and pairs of a few faces.
 ghost use Rattle.std.specs.Prelude.{◌≡◌, length};
 
 use crate::{FaceTable, Paired, pairing};

@@ -1,3 +1,4 @@
+// Through which facets the flood may pass, and where it begins.
 ghost use Rattle.std.specs.Prelude.{◌≡◌, ◌*◌, ◌<◌, ◌≤◌, true, length, slice_set, if◌then◌else◌, IfOk};
 ghost use Rattle.grid.specs.Views.{corners_of, triples_of};
 ghost use Rattle.flood.specs.HalfFaces.{AreOpen, ArePaired, IsBelow, is_mate, shut_at};

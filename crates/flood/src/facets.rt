@@ -1,3 +1,4 @@
+// The facets of tetrahedra, and the chains of half-faces on each.
 ghost use Rattle.std.specs.Prelude.{◌≡◌, ◌*◌, ◌^◌, ◌<◌, ◌≤◌, length, All, IfOk};
 ghost use Rattle.grid.specs.Views.{corners_of};
 ghost use Rattle.flood.specs.HalfFaces.{AreFacets, IsHalfFace};

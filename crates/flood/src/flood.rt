@@ -1,3 +1,4 @@
+// The flood: from loose faces through facets that are open.
 ghost use Rattle.std.specs.Prelude.{◌≡◌, ℕ, ◌*◌, ◌/◌, ◌^◌, ◌<◌, ◌≤◌, true, false, [], length, replicate, slice_index_or, IfOk, OnOk};
 ghost use Rattle.flood.specs.HalfFaces.{facet_at};
 ghost use Rattle.flood.specs.Chains.{IsChained};

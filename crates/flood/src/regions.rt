@@ -1,3 +1,4 @@
+// Which tetrahedra are outside.
 ghost use Rattle.std.specs.Prelude.{◌^◌, ◌≤◌, length, IfOk};
 ghost use Rattle.grid.specs.Regions.{AreRegions};
 ghost use Rattle.grid.specs.Views.{corners_of, triples_of};

@@ -1,3 +1,4 @@
+// Regions of a cube, with faces that are tracked or doubled.
 use crate::outside;
 use grid::{Face, Tet};
 use std::test::Fail;

@@ -1,3 +1,4 @@
+// The sides of the box on which a point lies.
 ghost use Rattle.grid.specs.Boxes.{IsOn, Side};
 ghost use Rattle.grid.specs.SideBits.{bit_of, number_of, side_bits};
 ghost use Rattle.std.specs.Ordering.{int_eq};

@@ -1,3 +1,4 @@
+// Signed volumes, and squared distances.
 ghost use Rattle.grid.specs.Boxes.{IsInBox};
 ghost use Rattle.grid.specs.Determinants;
 ghost use Rattle.grid.specs.Edges.{IsBetween, IsShort};

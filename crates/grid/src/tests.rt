@@ -1,3 +1,4 @@
+// Determinants, sides and faces, by hand.
 ghost use Rattle.std.specs.Prelude.{◌≡◌};
 
 use crate::{Face, Point, Tet, det, sides, sq_dist};

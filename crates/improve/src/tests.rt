@@ -1,3 +1,4 @@
+// Tries on six tetrahedra.
 ghost use Rattle.mesh_store.specs.Parts.{mesh_in};
 ghost use Rattle.mesh_types.specs.Journals.{AllPositive, NoFaceTwice};
 ghost use Rattle.std.specs.Prelude.{IfOk, None, ◌≡◌};

@@ -1,3 +1,4 @@
+// Why an input does not serve.
 use off_text::OffKind;
 
 /// Why the inputs of a run do not serve.

@@ -1,3 +1,4 @@
+// Triangles cut into small lattices.
 ghost use Rattle.grid.specs.Boxes.{IsInBox, IsTriInBox};
 ghost use Rattle.grid.specs.Limits.{largest_side, most_epsilon};
 ghost use Rattle.grid.specs.Planes.{IsDegenerate};

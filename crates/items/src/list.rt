@@ -1,3 +1,4 @@
+// A list that contracts see as its elements.
 ghost use Rattle.std.specs.Prelude.{◌≡◌, [], ◌∷◌, ◌++◌, length, OnOk, OnErr, IfOk};
 
 use std::alloc::{AllocError, Global};

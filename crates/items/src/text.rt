@@ -1,3 +1,4 @@
+// A text that contracts see as its bytes.
 ghost use Rattle.std.specs.Prelude.{◌≡◌};
 ghost use Rattle.std.specs.String.{string_bytes};
 

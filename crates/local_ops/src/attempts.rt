@@ -1,3 +1,4 @@
+// A try, from its candidate to its verdict.
 ghost use Rattle.grid.specs.Limits.{most_epsilon};
 ghost use Rattle.local_ops.specs.Attempts.{IsBefore, IsMade, PassesBelow, may_go, start_of};
 ghost use Rattle.mesh_store.specs.Parts.{mesh_in};

@@ -1,3 +1,4 @@
+// Tries on small lattices, and what a try costs.
 ghost use Rattle.grid.specs.Limits.{IsCells};
 ghost use Rattle.grid.specs.Meshes.{IsTriple};
 ghost use Rattle.mesh_store.specs.Parts.{mesh_in};

@@ -1,3 +1,4 @@
+// What a folder of files does, and when a call may fail.
 ghost use Rattle.std.specs.Prelude.{◌≡◌, true};
 ghost use Rattle.mesh_io.specs.Folder.{FolderState, Opens, Reads, Creates, WritesSome};
 

@@ -1,3 +1,4 @@
+// A file in memory, and the calls that are to fail.
 ghost use Rattle.std.specs.Prelude.{◌≡◌, ◌==◌, ◌&&◌};
 ghost use Rattle.mesh_io.specs.Fails.{is_listed, is_same_kind};
 

@@ -1,3 +1,4 @@
+// A folder in memory.
 ghost use Rattle.std.specs.Prelude.{◌≡◌, ◌<◌, ◌↔◌, true, false, [], None, MatchOption, IfOk, IsErr, IsErrOf, IsTrue, is_ok, length, min, if◌then◌else◌};
 ghost use Rattle.mesh_io.specs.Faults.{counted};
 ghost use Rattle.mesh_io.specs.Fails.{is_listed, lists_reading};

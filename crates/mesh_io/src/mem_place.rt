@@ -1,3 +1,4 @@
+// The place of a file in a folder in memory.
 ghost use Rattle.std.specs.Prelude.{◌≡◌, ◌<◌, ◌+◌, ◌^◌, ◌++◌, ◌∷◌, [], None, OnOk, OnErr, MatchOption, length, take, drop, min};
 ghost use Rattle.std.specs.Option.{option_map};
 ghost use Rattle.mesh_io.specs.MemFiles.{lookup, bytes_at};

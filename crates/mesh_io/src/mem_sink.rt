@@ -1,3 +1,4 @@
+// An output in memory.
 ghost use Rattle.std.specs.Prelude.{◌≡◌, ◌==◌, true, [], IfOk, IsErr, IsTrue, is_ok, length, if◌then◌else◌};
 ghost use Rattle.std.specs.List.{list_any};
 ghost use Rattle.mesh_io.specs.Faults.{counted};

@@ -1,3 +1,4 @@
+// A whole file, read.
 ghost use Rattle.std.specs.Prelude.{◌≡◌, ◌<◌, true, length};
 ghost use Rattle.mesh_io.specs.Read.{ReadsAll, ReadsRest};
 

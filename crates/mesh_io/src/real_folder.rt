@@ -1,3 +1,4 @@
+// The files of the system.
 ghost use Rattle.std.specs.Prelude.{◌≡◌, false, is_some};
 ghost use Rattle.mesh_io.specs.Untold.{untold_folder};
 

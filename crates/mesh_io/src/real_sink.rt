@@ -1,3 +1,4 @@
+// The standard output.
 ghost use Rattle.std.specs.Prelude.{◌≡◌};
 ghost use Rattle.mesh_io.specs.Untold.{untold_sink};
 

@@ -1,3 +1,4 @@
+// What an output does, and when a call may fail.
 ghost use Rattle.mesh_io.specs.Sink.{SinkState, Writes};
 
 use crate::folder::Failed;

@@ -1,3 +1,4 @@
+// Folders and outputs, in memory and real ones, and their faults.
 ghost use Rattle.std.specs.Prelude.{◌≡◌, false, IfOk, IsErrOf};
 ghost use Rattle.mesh_io.specs.Fails.{lists_reading};
 ghost use Rattle.mesh_io.specs.MemFiles.{AllNamesDiffer};

@@ -1,3 +1,4 @@
+// A whole file, written.
 ghost use Rattle.mesh_io.specs.Write.{WritesFile, WritesAll};
 
 use crate::folder::{Failed, Folder};

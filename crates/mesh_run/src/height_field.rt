@@ -1,3 +1,4 @@
+// The height field of `demo`, with the text of its soup.
 ghost use Rattle.std.specs.Prelude.{◌≡◌, ◌≤◌, ◌∷◌, [], IfOk};
 ghost use Rattle.inputs.specs.Placed.{IsBoxed, IsPlacedFor};
 ghost use Rattle.off_text.specs.Text.{off_text};

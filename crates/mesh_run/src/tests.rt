@@ -1,3 +1,4 @@
+// Whole runs over folders in memory.
 ghost use Rattle.std.specs.Prelude.{◌<◌, IfOk};
 ghost use Rattle.mesh_io.specs.MemFiles.{AllNamesDiffer};
 

@@ -1,3 +1,4 @@
+// Why a change is refused.
 ghost use Rattle.mesh_store.specs.declared.issue.StoreIssue.TheVariants.{Memory as out_of_memory};
 ghost use Rattle.std.specs.Prelude.{◌≡◌};
 

@@ -1,3 +1,4 @@
+// The store of a mesh, with transactions.
 ghost use Rattle.grid.specs.Boxes.{IsInBox};
 ghost use Rattle.grid.specs.Meshes.{IsTriple, IsWithinLimits};
 ghost use Rattle.grid.specs.Views.{triples_of};

@@ -1,3 +1,4 @@
+// Certificates.
 use sqlite_items::Boxed;
 
 /// Why a face lies in the envelope: an input triangle that all three corners are near to, or four

@@ -1,3 +1,4 @@
+// Cuts of edges.
 use grid::Point;
 
 /// An edge to cut, by the numbers of its ends, and the new point on it.

@@ -1,3 +1,4 @@
+// The laws of the definitions: tiling, refinement, envelopes, tries and journals.
 ghost use Rattle.mesh_types.specs.Hull.{HullLaw};
 ghost use Rattle.mesh_types.specs.InteriorFaces.{InteriorFaceLaw};
 ghost use Rattle.mesh_types.specs.Journals.{GoneLaw, JournalLaw, PrefixLaw, StaysSoundLaw};

@@ -1,3 +1,4 @@
+// The lists of a mesh.
 use grid::{Face, Point, Tet};
 use items::Items;
 

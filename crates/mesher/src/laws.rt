@@ -1,3 +1,4 @@
+// The law that a soup has one mesh.
 ghost use Rattle.mesher.specs.Meshed.{OneMesh};
 
 /// States that a soup, an epsilon, a number of cells and a budget have one mesh, one list of outcomes, one

@@ -1,3 +1,4 @@
+// From a soup to its mesh.
 ghost use Rattle.grid.specs.Boxes.{IsTriInBox};
 ghost use Rattle.grid.specs.Limits.{IsCells, IsSide, largest_side, most_epsilon};
 ghost use Rattle.mesher.specs.Meshed.{IsMeshed};

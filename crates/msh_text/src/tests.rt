@@ -1,3 +1,4 @@
+// Mesh texts, written and read.
 use crate::{MshIssue, msh_of, read_msh, write_kept, write_msh};
 use grid::{Face, Point, Tet};
 use items::Items;

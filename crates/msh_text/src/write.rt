@@ -1,3 +1,4 @@
+// The mesh text, written.
 ghost use Rattle.std.specs.Prelude.{◌≡◌, ◌+◌, ◌<◌, ◌≤◌, ◌^◌, ◌++◌, ◌∷◌, [], length, decimal, OnOk, IfOk};
 ghost use Rattle.std.specs.List.{enumerate_from, flat_map};
 ghost use Rattle.msh_text.specs.Text.{body_text, count_line, face_line, kept_text, msh_text, node_line, spaced, spaced_decimals, tet_line};

@@ -1,3 +1,4 @@
+// What is wrong with an OFF text.
 ghost use Rattle.std.specs.Prelude.{◌≡◌};
 
 use std::alloc::{AllocError, AllocFailed};

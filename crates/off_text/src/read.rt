@@ -1,3 +1,4 @@
+// An OFF text, read whole.
 ghost use Rattle.std.specs.Prelude.{◌≡◌, ◌⊎◌, ◌≤◌, ℕ, IfOk, IfSome, IsErrOf};
 ghost use Rattle.soup.specs.declared.raw.Raw.{Raw};
 ghost use Rattle.soup.specs.Limits.{IsRaw};

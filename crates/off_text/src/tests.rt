@@ -1,3 +1,4 @@
+// OFF texts, read and written.
 use crate::{OffIssue, OffKind, read_off, write_off};
 use grid::Memory;
 use soup::{Raw, height_field, place};

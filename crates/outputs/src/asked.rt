@@ -1,3 +1,4 @@
+// What is asked of a mesh, and the names of its files.
 use items::Text;
 
 /// What is asked of a mesh.

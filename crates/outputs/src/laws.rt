@@ -1,3 +1,4 @@
+// The law that words and input decide what is written.
 ghost use Rattle.outputs.specs.Made.{OneMade};
 
 /// States that what is asked for and a soup have one list of files and one line, and does nothing. So the

@@ -1,3 +1,4 @@
+// What tetrahedra and faces have in common.
 ghost use Rattle.grid.specs.Simplices.{has, replaced};
 ghost use Rattle.std.specs.Prelude.{List, ℕ, ◌≡◌};
 

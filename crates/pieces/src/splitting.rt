@@ -1,3 +1,4 @@
+// The pieces of a simplex by cuts in turn.
 ghost use Rattle.grid.specs.Simplices.{has, sub};
 ghost use Rattle.mesh_types.specs.Refines.{is_touched, sub_all};
 ghost use Rattle.std.specs.List.{flat_map, list_any};

@@ -1,3 +1,4 @@
+// Refining, inserting and trying, the slow way.
 ghost use Rattle.grid.specs.Limits.{most_points};
 ghost use Rattle.mesh_types.specs.declared.tries.Try;
 ghost use Rattle.mesh_types.specs.declared.tries.Verdict;

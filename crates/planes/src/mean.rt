@@ -1,3 +1,4 @@
+// Weighted means of two points.
 ghost use Rattle.grid.specs.Boxes.{IsInBox, IsUpTo};
 ghost use Rattle.grid.specs.Limits.{largest_side};
 ghost use Rattle.grid.specs.Planes;

@@ -1,3 +1,4 @@
+// Planes: values, snapped signs, crossings.
 ghost use Rattle.grid.specs.Boxes.{IsInBox, IsOn, Side};
 ghost use Rattle.grid.specs.Limits.{largest_side, most_epsilon};
 ghost use Rattle.grid.specs.Planes;

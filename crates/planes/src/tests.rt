@@ -1,3 +1,4 @@
+// Planes, signs and crossings, by hand.
 ghost use Rattle.std.specs.Prelude.{◌≡◌};
 
 use crate::{plane_of, side_plane};

@@ -1,3 +1,4 @@
+// The plane of a triangle, and those through its sides.
 ghost use Rattle.grid.specs.Boxes.{IsInBox, IsTriInBox, corner_of};
 ghost use Rattle.grid.specs.Limits.{largest_side};
 ghost use Rattle.grid.specs.Planes;

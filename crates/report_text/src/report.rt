@@ -1,3 +1,4 @@
+// What a report says.
 use grid::Face;
 use items::Items;
 use mesh_types::{Again, Cert, End, Journal, Outcome};

@@ -1,3 +1,4 @@
+// Reports, written and read.
 use crate::{Covering, Report, ReportIssue, Second, read_report, write_report};
 use grid::{Face, Point};
 use items::Items;

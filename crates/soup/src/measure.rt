@@ -1,3 +1,4 @@
+// The ranges of a soup along the axes, and its shift.
 ghost use Rattle.grid.specs.Limits.{largest_side};
 ghost use Rattle.std.specs.Prelude.{◌≡◌, ◌≤◌, ◌<◌, All};
 ghost use Rattle.soup.specs.Limits.{IsVertex};

@@ -1,3 +1,4 @@
+// The triangles of a soup, shifted into its box.
 ghost use Rattle.grid.specs.Limits.{largest_side};
 ghost use Rattle.std.specs.Prelude.{◌≡◌, ◌<◌, length, map, ◌-ℤ◌, All, IfOk};
 ghost use Rattle.soup.specs.Limits.{IsFaceBelow};

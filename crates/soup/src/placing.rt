@@ -1,3 +1,4 @@
+// A soup, placed in its box.
 ghost use Rattle.std.specs.Prelude.{◌≡◌, ◌↔◌, ◌≤◌, ◌<◌, length, All, IfOk, IsErrOf, ℕ};
 ghost use Rattle.grid.specs.Limits.{IsCells, largest_side, most_epsilon};
 ghost use Rattle.soup.specs.Limits.{IsVertex, IsFaceBelow};

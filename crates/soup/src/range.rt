@@ -1,3 +1,4 @@
+// The range of a soup along one axis.
 ghost use Rattle.grid.specs.Limits.{largest_side};
 ghost use Rattle.std.specs.Prelude.{◌≡◌, ◌<◌, ◌≤◌, ◌-◌, ◌/◌, ◌^◌, max, pos, unsigned_abs, ◌-ℤ◌};
 ghost use Rattle.std.specs.Int.{int_min, int_max};

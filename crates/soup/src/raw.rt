@@ -1,3 +1,4 @@
+// Soups as they were read, and as they are placed.
 use grid::Tri;
 use items::Items;
 

@@ -1,3 +1,4 @@
+// The side of a box.
 ghost use Rattle.grid.specs.Limits.{largest_side};
 ghost use Rattle.std.specs.Prelude.{◌≡◌, ◌≤◌};
 ghost use Rattle.soup.specs.Placement.{power_from};

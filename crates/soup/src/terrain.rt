@@ -1,3 +1,4 @@
+// Height fields from two numbers.
 ghost use Rattle.std.specs.Prelude.{◌≡◌, ◌+◌, ◌*◌, ◌/◌, ◌^◌, ◌<◌, ◌≤◌, ◌∷◌, [], pos, IfOk};
 ghost use Rattle.soup.specs.Limits.{IsRaw};
 ghost use Rattle.soup.specs.Placement.{extent};

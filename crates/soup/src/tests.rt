@@ -1,3 +1,4 @@
+// Soups in their boxes, and height fields.
 ghost use Rattle.std.specs.Prelude.{◌≤◌, length, All};
 ghost use Rattle.soup.specs.Limits.{IsVertex, IsFaceBelow};
 ghost use Rattle.grid.specs.Limits.{IsCells};

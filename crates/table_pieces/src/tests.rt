@@ -1,3 +1,4 @@
+// Pieces of tetrahedra, by hand.
 ghost use Rattle.grid.specs.Simplices.{IsTet};
 ghost use Rattle.mesh_types.specs.CutLists.{AreCuts};
 ghost use Rattle.std.specs.Prelude.{length, ◌+◌, ◌<◌, ◌^◌};

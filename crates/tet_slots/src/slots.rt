@@ -1,3 +1,4 @@
+// The points and slots of a mesh, with lists at points and bins for searches.
 ghost use Rattle.grid.specs.Determinants.{point_at};
 ghost use Rattle.grid.specs.Simplices.{IsTet};
 ghost use Rattle.std.specs.List.{filter};

@@ -1,3 +1,4 @@
+// Numbers in rising order.
 ghost use Rattle.grid.specs.Simplices.{has};
 ghost use Rattle.std.specs.List.Sorted.{IsStrictlyIncreasing};
 ghost use Rattle.std.specs.Prelude.{ℕ, ◌≡◌};

@@ -1,3 +1,4 @@
+// What is wrong with the words.
 ghost use Rattle.std.specs.Prelude.{◌≡◌};
 ghost use Rattle.tet_words.specs.Faults.{fault_text};
 ghost use Rattle.tet_words.specs.declared.fault.WordsIssue.TheVariants.{Memory, Refused};

@@ -1,3 +1,4 @@
+// What the words ask for.
 use items::Text;
 
 /// A soup to be meshed.

@@ -1,3 +1,4 @@
+// From words to a job.
 ghost use Rattle.std.specs.Prelude.{◌≡◌, ◌∷◌, [], map, IfOk};
 ghost use Rattle.std.specs.Option.{option_map};
 ghost use Rattle.tet_words.specs.Answers.{Answers};

@@ -1,3 +1,4 @@
+// Words and the jobs or faults that they give.
 use crate::{Job, WordFault, WordsIssue, parse};
 use std::alloc::Global;
 use std::test::Fail;

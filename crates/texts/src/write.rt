@@ -1,3 +1,4 @@
+// Texts and numbers, appended.
 ghost use Rattle.std.specs.Prelude.{◌≡◌, ◌++◌, decimal, OnOk};
 
 use grid::Memory;

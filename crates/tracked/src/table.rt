@@ -1,3 +1,4 @@
+// The keys of tracked faces, each in or out.
 ghost use Rattle.grid.specs.Meshes.{Ordered};
 ghost use Rattle.grid.specs.Rims.{IsRim, triples_at};
 ghost use Rattle.grid.specs.Simplices.{Rises, has, same_triple};

@@ -1,3 +1,4 @@
+// Keys put in and out.
 use crate::{Added, Tracked};
 use grid::Face;
 use std::test::Fail;

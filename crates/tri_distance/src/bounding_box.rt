@@ -1,3 +1,4 @@
+// Whether a triangle lies so far to one side that it is beyond reach.
 ghost use Rattle.grid.specs.Limits.{largest_side};
 ghost use Rattle.int_algebra.specs.Within.{IsWithin};
 ghost use Rattle.std.specs.Prelude.{IsTrue, pos, ◌-ℤ◌, ◌<ℤ◌, ◌↔◌};

@@ -1,3 +1,4 @@
+// Whether a point is near to a triangle.
 ghost use Rattle.grid.specs.Limits.{largest_side, most_epsilon};
 ghost use Rattle.std.specs.Prelude.{◌≡◌, ◌↔◌, ◌≤◌, ◌+◌, ◌*◌, ◌^◌, IsTrue, pos};
 ghost use Rattle.int_algebra.specs.Within.{IsWithin};

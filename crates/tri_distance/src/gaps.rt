@@ -1,3 +1,4 @@
+// Vectors from a triangle to a point, at a scale.
 ghost use Rattle.grid.specs.Boxes.{AreInBox, IsInBox};
 ghost use Rattle.grid.specs.Limits.{largest_side};
 ghost use Rattle.grid.specs.Vectors.{cross, difference};

@@ -1,3 +1,4 @@
+// Whether the origin is near to a triangle of vectors.
 ghost use Rattle.std.specs.Prelude.{◌↔◌, ◌^◌, IsTrue};
 ghost use Rattle.int_algebra.specs.Within.{IsWithin};
 ghost use Rattle.tri_distance.specs.Parts.{NearSegment, NearPlane, NearTriangle, IsNormal};

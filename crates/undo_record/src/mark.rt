@@ -1,3 +1,4 @@
+// A mark of one change.
 use grid::Face;
 
 /// A change of a mesh.

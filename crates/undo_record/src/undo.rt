@@ -1,3 +1,4 @@
+// The marks of a transaction.
 ghost use Rattle.std.specs.Prelude.{◌≡◌, ◌↔◌, [], ◌∷◌, ◌++◌, OnOk, OnErr, IsNone, IfSome, IfNone};
 
 use crate::mark::Mark;

@@ -1,3 +1,4 @@
+// Products of vectors.
 ghost use Rattle.grid.specs.Limits.{largest_side};
 ghost use Rattle.grid.specs.Vectors;
 ghost use Rattle.int_algebra.specs.Within.{IsWithin};

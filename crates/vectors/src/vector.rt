@@ -1,3 +1,4 @@
+// Vectors, and differences of points.
 ghost use Rattle.grid.specs.Boxes.{IsInBox, IsUpTo};
 ghost use Rattle.grid.specs.Limits.{largest_side};
 ghost use Rattle.grid.specs.Vectors;

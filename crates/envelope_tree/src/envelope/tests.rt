@@ -1,3 +1,4 @@
+// The least near triangle, of a few and of many.
 ghost use Rattle.grid.specs.Limits.{largest_side};
 ghost use Rattle.std.specs.Prelude.{◌≡◌, ◌^◌, ◌≤◌, ◌<◌, ◌-◌, All, IfOk, length, pos};
 ghost use Rattle.grid.specs.Boxes.{IsUpTo, IsInBox, IsTriInBox};

@@ -1,3 +1,4 @@
+// Transactions on small meshes.
 ghost use Rattle.std.specs.Prelude.{IfOk, IsSome, None, length, pos, ◌≡◌};
 
 mod long;

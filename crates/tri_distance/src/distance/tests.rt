@@ -1,3 +1,4 @@
+// Points at known distances.
 use super::near;
 use grid::{Point, Tri};
 
