@@ -156,6 +156,16 @@ pub not-touched : (b : Bool) (x : Touch) → cond b (Some x) None ≡ None → b
 not-touched true x e = cc
 not-touched false x e = refl
 
+abbrev one : ℕ → Touch → List Touched
+one k x = record { slot = k; touch = x } ∷ []
+
+pub one-touched : (b : Bool) (x y : Touch) (k : ℕ) → cond b (Some x) None ≡ Some y → one k y ≡ cond b (one k x) []
+one-touched true x y k e = ap (one k) (sym (same x y e))
+  where
+    same : (x y : Touch) → Some x ≡ Some y → x ≡ y
+    same x y e = cc
+one-touched false x y k e = cc
+
 pub phase-at : (t : Tri) (ps : List Point) (i : ℕ) (d : Bool) → i < 4 → get_or (phases_of t ps) i d ≡ may_want t i ps
 phase-at t ps zero d lt = refl
 phase-at t ps (suc zero) d lt = refl

@@ -1,4 +1,5 @@
 mod Members
+mod Lists
 mod Rotations
 mod VectorExpressions
 mod Gaps

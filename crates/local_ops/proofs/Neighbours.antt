@@ -7,7 +7,7 @@ use Rattle.std.specs.Ordering.{nat_cmp}
 use Rattle.std.proofs.lemmas.Bool.{cases_Bool, cases_eq, and_parts, and_from, or_right, eqb-true, ltb-true, ltb-false, true≢false}
 use Rattle.std.proofs.lemmas.List.Elements.{All-from_recursion}
 use Rattle.std.proofs.lemmas.List.FromFn.{length-range_with_len}
-use Rattle.grid.proofs.ForCallers.{count_by-cons_yes, count_by-cons_no, Each-both, has_first, rises_same}
+use Rattle.grid.proofs.ForCallers.{count_by-cons_yes, count_by-cons_no, Each-both, has_first, rises_same, has-append}
 use Rattle.grid.specs.Meshes.{Mesh, IsWellFormed}
 use Rattle.grid.specs.Simplices.{has}
 use Rattle.mesh_types.specs.Results.{neighbours}
@@ -16,7 +16,7 @@ use Rattle.mesh_types.proofs.ForCallers.{Among, among-all, Cornered, second, fou
 use Rattle.tet_slots.specs.declared.slot.Slot.{Slot}
 use Rattle.tet_slots.specs.Searches.{has_corner, numbers_of}
 use Rattle.mesh_store.specs.Parts.{live_tets}
-use Rattle.tet_slots.proofs.ForCallers.{has-append, has-filter}
+use Rattle.tet_slots.proofs.ForCallers.{has-filter}
 use Rattle.mesh_store.proofs.ForCallers.{tets-numbers}
 use Rattle.local_ops.specs.Measures.{corners_at}
 use Rattle.local_ops.specs.Smoothing.{corners_but}

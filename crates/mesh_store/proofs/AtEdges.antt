@@ -10,7 +10,8 @@ use Rattle.mesh_types.specs.Refines.{is_touched}
 use Rattle.tet_slots.specs.declared.slot.Slot.{Slot}
 use Rattle.tet_slots.specs.Slots.{slot_at}
 use Rattle.tet_slots.specs.Searches.{numbers_of, has_edge}
-use Rattle.tet_slots.proofs.ForCallers.{has-append, has-numbers, numbers-found}
+use Rattle.grid.proofs.ForCallers.{has-append}
+use Rattle.tet_slots.proofs.ForCallers.{has-numbers, numbers-found}
 use Rattle.mesh_store.specs.Changes.{is_split}
 
 -- a live slot with both ends of one of the cuts

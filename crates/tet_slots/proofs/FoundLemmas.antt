@@ -14,18 +14,10 @@ use Rattle.grid.specs.Simplices.{has, Rises}
 use Rattle.tet_slots.specs.declared.bins.Bin.{Bin}
 use Rattle.tet_slots.specs.Bins.{same_bin, numbers_in, in_bin}
 use Rattle.tet_slots.proofs.BinLemmas.{same_bin-true}
-use Rattle.tet_slots.proofs.PointListLemmas.{shorter}
+use Rattle.grid.proofs.ForCallers.{has-append, shorter}
 use Rattle.tet_slots.specs.Quests.{Grows, Finds}
 
 -- ---- membership
-pub has-append : (xs ys : List ℕ) (i : ℕ) → has (xs ++ ys) i ≡ (has xs i || has ys i)
-has-append [] ys i = refl
-has-append (x ∷ xs) ys i = ap (λ (t : Bool). nat_eq x i || t) (has-append xs ys i) ∙ assoc (nat_eq x i) (has xs i) (has ys i)
-  where
-    assoc : (a b c : Bool) → (a || (b || c)) ≡ ((a || b) || c)
-    assoc true b c = refl
-    assoc false b c = refl
-
 first-in : (t : Bool) (x : ℕ) (xs : List ℕ) (i : ℕ) → has (cond t (x ∷ xs) xs) i ≡ ((t && nat_eq x i) || has xs i)
 first-in true x xs i = refl
 first-in false x xs i = refl

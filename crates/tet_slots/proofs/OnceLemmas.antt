@@ -5,7 +5,7 @@ use Rattle.std.specs.Prelude.{option_to_list}
 use Rattle.std.proofs.lemmas.Bool.{and_left, cases_Bool, eq-eqb, eqb-true, false≢true, or_parts}
 use Rattle.grid.specs.Simplices.{has, AreDifferent}
 use Rattle.tet_slots.specs.PointLists.{and_last, but}
-use Rattle.tet_slots.proofs.PointListLemmas.{has-push}
+use Rattle.grid.proofs.ForCallers.{has-push}
 use Rattle.tet_slots.proofs.FoundLemmas.{has-filter}
 
 pub AreDifferent-filter : (test : ℕ → Bool) (xs : List ℕ) → AreDifferent xs → AreDifferent (filter test xs)

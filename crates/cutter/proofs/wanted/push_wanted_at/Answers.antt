@@ -20,13 +20,13 @@ push_along-requires-clause-signs c =
     ap (λ (e : Touched). e.touch.signs) c.requires.touched
     ∙ ap (signs_at c.args.triangle.now) (sym (c.corner_points-corners.ensures ∙ ap (λ x. points_of c.args.slots.now.points x.0) c.tet-tet.ensures.value))
 
-pub returns-then-not-touched-touch-i : goal.returns-then-not-touched-touch-i
-returns-then-not-touched-touch-i c =
+pub returns-then-not-touched-i : goal.returns-then-not-touched-i
+returns-then-not-touched-i c =
     let points = c.args.slots.now.points in
     let tet = (slot_at c.args.slots.now.slots c.args.touched.slot).tet.0 in
     let t = c.args.triangle.now in
     let none : may_want t c.args.i (points_of points tet) ≡ false =
-    sym (phase-at t (points_of points tet) c.args.i false c.requires.index) ∙ (sym (ap (λ (e : Touched). get_or e.touch.phases c.args.i false) c.requires.touched) ∙ c.if-not-touched-touch-i.true) in
+    sym (phase-at t (points_of points tet) c.args.i false c.requires.index) ∙ (sym (ap (λ (e : Touched). get_or e.touch.phases c.args.i false) c.requires.touched) ∙ c.if-not-touched-i.true) in
     sym (append-nil (numbers_of c.args.into.now.items)) ∙ ap (λ es. numbers_of c.args.into.now.items ++ es) (sym (may-none points t c.args.i tet none))
 
 pub returns-then-i-eq0 : goal.returns-then-i-eq0
@@ -36,7 +36,7 @@ returns-then-i-eq0 c =
     let t = c.args.triangle.now in
     let first = c.if-i-eq0.true in
     let some : may_want t c.args.i (points_of points tet) ≡ true =
-    sym (phase-at t (points_of points tet) c.args.i false c.requires.index) ∙ (sym (ap (λ (e : Touched). get_or e.touch.phases c.args.i false) c.requires.touched) ∙ c.if-not-touched-touch-i.false) in
+    sym (phase-at t (points_of points tet) c.args.i false c.requires.index) ∙ (sym (ap (λ (e : Touched). get_or e.touch.phases c.args.i false) c.requires.touched) ∙ c.if-not-touched-i.false) in
     let crossed : is_crossed t (points_of points tet) ≡ true = subst (λ i. may_want t i (points_of points tet) ≡ true) first some in
     let value = ap (λ x. x.0) c.tet-tet.ensures.value in
     c.in_ok-push_crossed.ensures points t (ap (λ (e : Touched). e.touch.signs) c.requires.touched ∙ ap (λ x. signs_at t (points_of points x)) (sym value)) (subst (λ x. is_crossed t (points_of points x) ≡ true) (sym value) crossed)

@@ -1,6 +1,6 @@
 use Rattle.std.proofs.Common.{rules, ap, get_or, ◌≡◌, length, arith}
 use Rattle.std.specs.Prelude.{nat_lt}
-use Rattle.tet_slots.proofs.ForCallers.{has-get_or}
+use Rattle.grid.proofs.ForCallers.{has-get_or}
 use Rattle.local_ops.proofs.Listed.{listed-face}
 use Rattle.local_ops.proofs.candidates.has_face.Goals as goal
 

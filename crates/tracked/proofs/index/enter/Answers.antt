@@ -1,6 +1,7 @@
 use Rattle.std.proofs.Common.{take}
 use Rattle.tracked.specs.Places.{and_last}
-use Rattle.tracked.proofs.PlaceLemmas.{IsChanged-more, AreDifferent-take, IsSame-failed}
+use Rattle.grid.proofs.ForCallers.{AreDifferent-take}
+use Rattle.tracked.proofs.PlaceLemmas.{IsChanged-more, IsSame-failed}
 use Rattle.tracked.proofs.index.enter.Goals as goal
 
 pub leave_last-requires : goal.leave_last-requires
