@@ -3,12 +3,13 @@ use Rattle.std.proofs.Common.{◌≡◌, ℤ, ◌≤ℤ◌, Bool, true, false, �
 use Rattle.std.proofs.lemmas.Bool.{and_parts}
 use Rattle.grid.specs.declared.shapes.Point.{Point}
 use Rattle.grid.specs.declared.shapes.Tri.{Tri}
+use Rattle.grid.proofs.ForCallers.{any-map}
 use Rattle.mesh_types.specs.Phases.{points_of}
 use Rattle.tet_slots.specs.declared.slot.Slot.{Slot}
 use Rattle.tet_slots.specs.Searches.{overlaps, meets, meets_box}
 use Rattle.cutting_rule.specs.Bounds.{overlaps as overlap_along, is_met}
 use Rattle.cutting_rule.specs.Touching.{touches, IsReach}
-use Rattle.cutting_rule.proofs.ForCallers.{any-map, le-true}
+use Rattle.cutting_rule.proofs.ForCallers.{le-true}
 use Rattle.cutter.specs.Found.{is_touching}
 
 true-and : (p q : Bool) → p ≡ true → (p && q) ≡ q

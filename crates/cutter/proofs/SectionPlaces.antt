@@ -10,12 +10,13 @@ use Rattle.grid.specs.Determinants.{point_at, origin}
 use Rattle.grid.specs.Planes.{Plane, side_plane}
 use Rattle.grid.specs.Simplices.{faces, rising}
 use Rattle.grid.specs.Limits.{largest_side}
+use Rattle.grid.proofs.ForCallers.{any-map}
 use Rattle.mesh_types.specs.CuttingRule.{is_in_section, lies_above, lies_below, lies_on, splits, section_plane, three_sides}
 use Rattle.mesh_types.specs.Phases.{points_of, is_section_face}
 use Rattle.cutting_rule.specs.Bounds.{overlaps, is_met}
 use Rattle.cutting_rule.specs.Section.{section_in, IsWithin}
 use Rattle.cutting_rule.specs.Touching.{touches, has_some_within, IsReach}
-use Rattle.cutting_rule.proofs.ForCallers.{any-map, filter-none, le-true, on-sides}
+use Rattle.cutting_rule.proofs.ForCallers.{filter-none, le-true, on-sides}
 
 -- the first corner of a face is one of the tetrahedron's
 record Begins (x f : List ℕ) : Type 0 where

@@ -5,8 +5,8 @@ use Rattle.std.specs.List.{list_any}
 use Rattle.std.specs.Ordering.{int_eq}
 use Rattle.grid.specs.declared.shapes.Point.{Point}
 use Rattle.grid.specs.Planes.{Plane, snap_sign}
+use Rattle.grid.proofs.ForCallers.{any-map}
 use Rattle.mesh_types.specs.CuttingRule.{lies_below, lies_above, lies_on}
-use Rattle.cutting_rule.proofs.Meeting.{any-map}
 
 -- some point lies on a side of the plane where some sign says so
 module _ (m : Plane) (ps : List Point) (signs : List ℤ) (e : signs ≡ map (snap_sign m) ps) where

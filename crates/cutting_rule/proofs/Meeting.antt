@@ -1,12 +1,12 @@
 -- Bounding boxes that meet.
-use Rattle.std.proofs.Common.{◌≡◌, ℤ, ◌≤ℤ◌, Bool, true, ◌&&◌, ◌||◌, int_le, List, [], ◌∷◌, map, refl, sym, ap, ap₂, ◌∙◌, arith}
+use Rattle.std.proofs.Common.{◌≡◌, ℤ, ◌≤ℤ◌, Bool, true, ◌&&◌, ◌||◌, int_le, List, [], ◌∷◌, map, refl, sym, ap₂, ◌∙◌, arith}
 use Rattle.std.specs.List.{list_any}
 use Rattle.std.proofs.lemmas.Int.{ints}
 use Rattle.std.proofs.lemmas.List.Elements.{All-contains}
 use Rattle.std.proofs.lemmas.List.Folds.{Any-from_list_any, list_any-from_Any}
 use Rattle.grid.specs.declared.shapes.Point.{Point}
 use Rattle.mesh_types.specs.CuttingRule.{ranges_meet, boxes_meet}
-use Rattle.grid.proofs.ForCallers.{same_bools}
+use Rattle.grid.proofs.ForCallers.{same_bools, any-map}
 use Rattle.cutting_rule.specs.Bounds.{AreEnds, AreBounds, overlaps, is_met}
 
 pub le-true : (a b : ℤ) → a ≤ℤ b → int_le a b ≡ true
@@ -42,10 +42,6 @@ range-met lo hi ws vs h =
     ap₂ (λ (a b : Bool). a && b)
     (any-same (λ v. int_le v hi) (λ v. list_any (λ w. int_le v w) ws) (λ v. sym (some_above lo hi ws h v)) vs)
     (any-same (λ v. int_le lo v) (λ v. list_any (λ w. int_le w v) ws) (λ v. sym (some_below lo hi ws h v)) vs)
-
-pub any-map : {X Y : Type 0} (test : Y → Bool) (f : X → Y) (xs : List X) → list_any test (map f xs) ≡ list_any (λ x. test (f x)) xs
-any-map test f [] = refl
-any-map test f (x ∷ xs) = ap (λ (b : Bool). test (f x) || b) (any-map test f xs)
 
 overlaps-ranges : (f : Point → ℤ) (lo hi : ℤ) (ws : List ℤ) (ps : List Point) → AreEnds lo hi ws → overlaps f lo hi ps ≡ ranges_meet (map f ps) ws
 overlaps-ranges f lo hi ws ps h = sym (ap₂ (λ (a b : Bool). a && b) (any-map (λ v. int_le v hi) f ps) (any-map (λ v. int_le lo v) f ps)) ∙ range-met lo hi ws (map f ps) h

@@ -1,28 +1,14 @@
 -- Naming the first fault.
 use Rattle.std.proofs.Common.{◌≡◌, ℕ, zero, suc, ◌<◌, true, List, [], ◌∷◌, ◌++◌, length, map, get_or, nat_eq, All, refl, sym, ap, subst, inl, inr, arith}
 use Rattle.std.specs.List.{AllByRecursion as Each}
-use Rattle.std.proofs.lemmas.Bool.{or_left, or_right, or_cases, true≢false}
+use Rattle.std.proofs.lemmas.Bool.{or_cases, true≢false}
 use Rattle.std.proofs.lemmas.Bool.Decides.{nat_tests}
 use Rattle.std.proofs.lemmas.Grind.{get_or_default_zero}
 use Rattle.std.proofs.lemmas.List.Elements.{All-from_recursion, recursion_from_All}
 use Rattle.grid.specs.declared.shapes.Point.{Point}
-use Rattle.grid.specs.Boxes.{IsInBox}
-use Rattle.grid.specs.Determinants.{point_at, det, det_at, origin}
 use Rattle.grid.specs.Simplices.{has}
 use Rattle.mesh_types.specs.Insertion.{NamesFirst}
 use Rattle.mesh_types.specs.Phases.{points_of}
-
--- ---- determinants
-pub det-four : (points : List Point) (x : List ℕ) → length x ≡ 4 → det_at points x ≡ det (point_at points (get_or x 0 0)) (point_at points (get_or x 1 0)) (point_at points (get_or x 2 0)) (point_at points (get_or x 3 0))
-det-four points [] e = cc e
-det-four points (a ∷ []) e = cc e
-det-four points (a ∷ b ∷ []) e = cc e
-det-four points (a ∷ b ∷ c ∷ []) e = cc e
-det-four points (a ∷ b ∷ c ∷ d ∷ []) e = refl
-det-four points (a ∷ b ∷ c ∷ d ∷ f ∷ x) e = cc e
-
-pub corner-in : (n : ℕ) (points : List Point) (x : List ℕ) (i : ℕ) (p : Point) → All (IsInBox n) points → All (λ u. u < length points) x → i < length x → p ≡ point_at points (get_or x i 0) → IsInBox n p
-corner-in n points x i p inside low lt e = subst (IsInBox n) (sym e) (inside (get_or x i 0) origin (low i 0 lt))
 
 -- ---- the first of a list
 module _ {X : Type 0} (f : X → List ℕ) (P : List ℕ → Type 0) where
@@ -77,12 +63,6 @@ names-other points P Q xs named same h =
     last : (xs : List (List ℕ)) (x : List ℕ) (bs : List (List ℕ)) → Each (λ x. (P x → Q x) × (Q x → P x)) (xs ++ x ∷ bs) → (P x → Q x) × (Q x → P x)
     last [] x bs b = b.0
     last (a ∷ xs) x bs b = last xs x bs b.1
-
--- ---- corners
-pub has-at : (x : List ℕ) (i : ℕ) → i < length x → has x (get_or x i 0) ≡ true
-has-at [] i lt = absurd (omega arith)
-has-at (a ∷ x) zero lt = or_left (nat_eq a a) (has x a) (grind (arith, nat_tests))
-has-at (a ∷ x) (suc i) lt = or_right (nat_eq a (get_or x i 0)) (has x (get_or x i 0)) (has-at x i (omega arith))
 
 each-has : (P : ℕ → Type 0) (x : List ℕ) (c : ℕ) → Each P x → has x c ≡ true → P c
 each-has P [] c h e = absurd (true≢false (sym e))

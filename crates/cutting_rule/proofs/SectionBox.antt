@@ -5,8 +5,8 @@ use Rattle.std.proofs.lemmas.Bool.{and_parts}
 use Rattle.std.proofs.lemmas.List.Elements.{recursion_from_All}
 use lib.IntN.{nat_abs}
 use Rattle.int_algebra.proofs.Laws.{linear}
-use Rattle.int_algebra.proofs.Ring.{constant, variable, ◌⊕◌, ◌⊗◌, ring}
-use Rattle.int_algebra.proofs.Orders.{at_most, natural-NonNegative, square, ◌⊞◌}
+use Rattle.int_algebra.proofs.Ring.{constant, variable, ◌⊗◌, ring}
+use Rattle.int_algebra.proofs.Orders.{natural-NonNegative}
 use Rattle.grid.specs.declared.shapes.Point.{Point}
 use Rattle.grid.specs.declared.shapes.Tri.{Tri}
 use Rattle.grid.specs.Boxes.{corner_of, IsInBox}
@@ -23,10 +23,7 @@ use Rattle.cutting_rule.proofs.Coordinates.{along, one_axis}
 use Rattle.cutting_rule.specs.Bounds.{AreEnds, AreBounds}
 use Rattle.cutting_rule.specs.Section.{IsWithin}
 use Rattle.cutting_rule.specs.Spread.{IsSpreadBox, IsLengthAtMost}
-
-length-NonNegative : (m : Vector) → pos 0 ≤ℤ dot m m
-unfolding dot
-length-NonNegative m = at_most (m.x ∷ m.y ∷ m.z ∷ []) [] (constant (pos 0)) (variable 0 ⊗ variable 0 ⊕ variable 1 ⊗ variable 1 ⊕ variable 2 ⊗ variable 2) (square (variable 0) ⊞ square (variable 1) ⊞ square (variable 2)) refl tt
+use Rattle.vectors.proofs.VectorLemmas.{length-NonNegative}
 
 one_times : (d : ℤ) → pos (1 ^ 2) *ℤ d ≡ d
 one_times d = ring (d ∷ []) (constant (pos 1) ⊗ variable 0) (variable 0) refl

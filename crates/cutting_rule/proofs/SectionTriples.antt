@@ -1,5 +1,5 @@
 -- Section faces are triples of points.
-use Rattle.std.proofs.Common.{◌≡◌, ℕ, suc, ◌<◌, Bool, true, false, ◌||◌, nat_eq, nat_lt, List, [], ◌∷◌, map, length, get_or, All, refl, sym, ap, ◌∙◌, subst, inl, inr, arith}
+use Rattle.std.proofs.Common.{◌≡◌, ℕ, ◌<◌, Bool, true, false, ◌||◌, nat_eq, List, [], ◌∷◌, map, length, get_or, All, refl, sym, ◌∙◌, subst, inl, inr, arith}
 use Rattle.std.specs.List.{filter, AllByRecursion as Each}
 use Rattle.std.proofs.lemmas.Bool.{cases_Bool}
 use Rattle.std.proofs.lemmas.Bool.Decides.{nat_tests}
@@ -7,19 +7,15 @@ use Rattle.std.proofs.lemmas.List.Elements.{All-from_recursion, recursion_from_A
 use Rattle.grid.specs.declared.shapes.Face.{Face}
 use Rattle.grid.specs.declared.shapes.Tri.{Tri}
 use Rattle.grid.specs.Meshes.{Mesh, IsTriple}
-use Rattle.grid.specs.Simplices.{faces, all_faces, rising, insert_number, AreDifferent, IsTet}
+use Rattle.grid.specs.Simplices.{faces, all_faces, rising, AreDifferent, IsTet}
 use Rattle.grid.specs.Views.{triples_of}
 use Rattle.mesh_types.specs.Phases.{section, is_section_face}
-use Rattle.grid.proofs.ForCallers.{Each-of_flat_map, has-rising, rising-Rises}
+use Rattle.grid.proofs.ForCallers.{Each-of_flat_map, has-rising, rising-Rises, length-rising, Each-face, has-get_or}
 use Rattle.mesh_types.proofs.ForCallers.{Each-map, Each-in_order_once}
-use Rattle.cutting_rule.proofs.Naming.{all-has, all-index, has-at}
-
-each-code : (P : List ℕ → Type 0) (fs : List Face) → Each P (triples_of fs) → Each (λ (f : Face). P f.0) fs
-each-code P [] h = tt
-each-code P (f ∷ fs) h = (h.0, each-code P fs h.1)
+use Rattle.cutting_rule.proofs.Naming.{all-has, all-index}
 
 pub code-all : (P : List ℕ → Type 0) (fs : List Face) (ts : List (List ℕ)) → triples_of fs ≡ ts → Each P ts → All (λ (f : Face). P f.0) fs
-code-all P fs ts e h = All-from_recursion (λ (f : Face). P f.0) fs (each-code P fs (subst (Each P) (sym e) h))
+code-all P fs ts e h = All-from_recursion (λ (f : Face). P f.0) fs (Each-face P fs (subst (Each P) (sym e) h))
 
 pub lower : (n : ℕ) (ts : List (List ℕ)) → Each (IsTriple n) ts → Each (λ t. All (λ u. u < n) t) ts
 lower n [] h = tt
@@ -84,22 +80,11 @@ each-filter P test (x ∷ xs) h = elim (cases_Bool (test x)) [
   | inr e ↦ rw e (each-filter P test xs h.1)
 ]
 
-length-insert_number : (a : ℕ) (x : List ℕ) → length (insert_number a x) ≡ suc (length x)
-length-insert_number a [] = refl
-length-insert_number a (b ∷ x) = elim (cases_Bool (nat_lt b a)) [
-  | inl e ↦ rw e (ap suc (length-insert_number a x))
-  | inr e ↦ rw e refl
-]
-
-length-rising : (x : List ℕ) → length (rising x) ≡ length x
-length-rising [] = refl
-length-rising (a ∷ x) = length-insert_number a (rising x) ∙ ap suc (length-rising x)
-
 rising-triple : (n : ℕ) (f : List ℕ) → IsFace n f → IsTriple n (rising f)
 rising-triple n f h = record {
   three = length-rising f ∙ h.three;
   rises = rising-Rises f h.different;
-  in_range = all-index (λ u. u < n) (rising f) (λ k lt. all-has (λ u. u < n) f (get_or (rising f) k 0) (All-from_recursion (λ u. u < n) f h.low) (sym (has-rising f (get_or (rising f) k 0)) ∙ has-at (rising f) k lt));
+  in_range = all-index (λ u. u < n) (rising f) (λ k lt. all-has (λ u. u < n) f (get_or (rising f) k 0) (All-from_recursion (λ u. u < n) f h.low) (sym (has-rising f (get_or (rising f) k 0)) ∙ has-get_or (rising f) k lt));
 }
 
 -- the section faces are triples of points

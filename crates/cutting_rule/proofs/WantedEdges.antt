@@ -17,10 +17,9 @@ use Rattle.planes.proofs.ForCallers.{HaveOppositeSigns-up, HaveOppositeSigns-dow
 use Rattle.mesh_types.specs.CuttingRule.{lies_below, lies_above, lies_on, splits, ranges_meet, boxes_meet, section_plane, phase_plane, is_crossed, is_wanted}
 use Rattle.mesh_types.specs.Phases.{points_of, edges, wanted_in}
 use Rattle.mesh_types.specs.Tracking.{in_order_once}
-use Rattle.grid.proofs.ForCallers.{Each-of_flat_map}
+use Rattle.grid.proofs.ForCallers.{Each-of_flat_map, any-map}
 use Rattle.mesh_types.proofs.ForCallers.{Each-in_order_once}
 use Rattle.cutting_rule.specs.Edges.{IsSplitEdge}
-use Rattle.cutting_rule.proofs.Meeting.{any-map}
 
 -- ---- ends on both sides of a plane
 sign-below : (m : Plane) (p : Point) → lies_below m p ≡ true → snap_sign m p ≡ negsuc 0

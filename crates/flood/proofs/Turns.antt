@@ -3,7 +3,7 @@ use Rattle.std.proofs.Common.{◌≡◌, ℕ, ◌⊎◌, true, false, cond, List
 use Rattle.std.proofs.lemmas.Bool.{false≢true}
 use Rattle.std.proofs.lemmas.Bool.Decides.{nat_tests}
 use Rattle.grid.specs.Simplices.{insert_number, is_rotation, reversed, rising}
-use Rattle.grid.proofs.ForCallers.{IsRotation, rotation-from, rotation-to, rotation-back, rotation-reversed}
+use Rattle.grid.proofs.ForCallers.{IsRotation, rotation-from, rotation-to, rotation-back, rotation-reversed, reversed-reversed}
 
 -- what holds of any two triples of which one is a rotation of the other
 on_triples : (P : List ℕ → List ℕ → Type 0) → ((a b c u v w : ℕ) → IsRotation (a ∷ b ∷ c ∷ []) u v w → P (a ∷ b ∷ c ∷ []) (u ∷ v ∷ w ∷ [])) → (f g : List ℕ) → is_rotation f g ≡ true → P f g
@@ -46,13 +46,6 @@ Turns-trans f g h s t = on_triples (λ x y. Turns f x → Turns f y) (λ a b c u
 
 pub Turns-reversed : (f g : List ℕ) → Turns f g → Turns (reversed f) (reversed g)
 Turns-reversed f g t = on_triples (λ x y. Turns (reversed x) (reversed y)) (λ a b c u v w r. turns (a ∷ c ∷ b ∷ []) u w v (rotation-reversed (a ∷ b ∷ c ∷ []) u v w r)) f g t.is
-
-pub reversed-reversed : (f : List ℕ) → reversed (reversed f) ≡ f
-reversed-reversed [] = refl
-reversed-reversed (a ∷ []) = refl
-reversed-reversed (a ∷ b ∷ []) = refl
-reversed-reversed (a ∷ b ∷ c ∷ []) = refl
-reversed-reversed (a ∷ b ∷ c ∷ d ∷ f) = refl
 
 -- the reverse of a rotation
 pub Turns-over : (f g : List ℕ) → Turns f (reversed g) → Turns (reversed f) g

@@ -83,3 +83,10 @@ pub rotation-corner : (f : List ℕ) (a b c d : ℕ) → IsRotation f a b c → 
 rotation-corner f a b c d (inl e) h = has3-cases a b c d (ap (λ g. has g d) (sym e) ∙ h)
 rotation-corner f a b c d (inr (inl e)) h = elim (has3-cases b c a d (ap (λ g. has g d) (sym e) ∙ h)) [ inl k ↦ inr (inl k) | inr (inl k) ↦ inr (inr k) | inr (inr k) ↦ inl k ]
 rotation-corner f a b c d (inr (inr e)) h = elim (has3-cases c a b d (ap (λ g. has g d) (sym e) ∙ h)) [ inl k ↦ inr (inr k) | inr (inl k) ↦ inl k | inr (inr k) ↦ inr (inl k) ]
+
+pub reversed-reversed : (f : List ℕ) → reversed (reversed f) ≡ f
+reversed-reversed [] = refl
+reversed-reversed (a ∷ []) = refl
+reversed-reversed (a ∷ b ∷ []) = refl
+reversed-reversed (a ∷ b ∷ c ∷ []) = refl
+reversed-reversed (a ∷ b ∷ c ∷ d ∷ f) = refl

@@ -16,7 +16,7 @@ use Rattle.mesh_types.specs.Phases.{points_of}
 use Rattle.mesh_types.specs.Tracking.{in_order_once}
 use Rattle.mesh_types.proofs.ForCallers.{is_among, equal_from, in_order_once-Ordered, is_among-in_order_once}
 use Rattle.mesh_store.specs.Parts.{tracked_in}
-use Rattle.mesh_store.proofs.ForCallers.{chosen-is, tracked-triples, among-filter}
+use Rattle.mesh_store.proofs.ForCallers.{chosen-is, tracked-triples, among-filter, triples-filter}
 use Rattle.tracked.specs.Keys.{Keys, faces_at, faces_in}
 use Rattle.insertion.specs.Bare.{IsBare, IsKept, is_fresh}
 use Rattle.insertion.proofs.Starting.{kept-not}
@@ -78,13 +78,6 @@ spread false a b = refl
 triples-append : (fs gs : List Face) → triples_of (fs ++ gs) ≡ triples_of fs ++ triples_of gs
 triples-append [] gs = refl
 triples-append (f ∷ fs) gs = ap (λ (ts : List (List ℕ)). f.0 ∷ ts) (triples-append fs gs)
-
-triples-filter : (p : List ℕ → Bool) (fs : List Face) → triples_of (filter (λ f. p f.0) fs) ≡ filter p (triples_of fs)
-triples-filter p [] = refl
-triples-filter p (f ∷ fs) = elim (cases_Bool (p f.0)) [
-  | inl e ↦ rw e (ap (λ (ts : List (List ℕ)). f.0 ∷ ts) (triples-filter p fs))
-  | inr e ↦ rw e (triples-filter p fs)
-]
 
 pub FoundTo-more : (keys : Keys) (n k : ℕ) (fs at more new : List Face) → n ≤ k → at ≡ faces_at keys k → more ≡ at → new ≡ fs ++ more → FoundTo keys n k fs → FoundTo keys n (k + 1) new
 FoundTo-more keys n k fs at more new l e same f h x =

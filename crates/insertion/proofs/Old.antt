@@ -1,5 +1,5 @@
 -- What was there before the cuts.
-use Rattle.std.proofs.Common.{◌≡◌, ℕ, zero, suc, ◌<◌, pos, ◌<ℤ◌, Bool, true, false, cond, List, [], ◌∷◌, length, take, All, refl, sym, ap, ◌∙◌, subst, inl, inr, arith}
+use Rattle.std.proofs.Common.{◌≡◌, ℕ, ◌<◌, pos, ◌<ℤ◌, true, false, List, [], ◌∷◌, length, take, All, refl, sym, ap, ◌∙◌, subst, inl, inr}
 use Rattle.std.specs.List.{AllByRecursion as Each}
 use Rattle.std.proofs.lemmas.Bool.{cases_Bool, true≢false}
 use Rattle.std.proofs.lemmas.List.Elements.{recursion_from_All}
@@ -8,6 +8,7 @@ use Rattle.grid.specs.Determinants.{det, det_at, IsPositive}
 use Rattle.grid.specs.Simplices.{IsTet}
 use Rattle.mesh_store.specs.Changes.{IsGrown}
 use Rattle.mesh_store.specs.Parts.{Parts, live_tets}
+use Rattle.mesh_store.proofs.ForCallers.{live-each}
 use Rattle.tet_slots.specs.declared.slot.Slot.{Slot}
 use Rattle.tet_slots.specs.Slots.{slot_at, no_slot}
 use Rattle.cutter.proofs.ForCallers.{point-kept}
@@ -20,19 +21,6 @@ det-kept old new (a ∷ []) e h = refl
 det-kept old new (a ∷ b ∷ []) e h = refl
 det-kept old new (a ∷ b ∷ c ∷ []) e h = refl
 det-kept old new (a ∷ b ∷ c ∷ d ∷ f ∷ x) e h = refl
-
-live-step : (P : List ℕ → Type 0) (s : Slot) (xs : List (List ℕ)) (b : Bool) → s.live ≡ b → b ≡ true → Each P (cond b (s.tet.0 ∷ xs) xs) → P s.tet.0
-live-step P s xs true e f h = h.0
-live-step P s xs false e f h = cc f
-
-tail-step : (P : List ℕ → Type 0) (x : List ℕ) (xs : List (List ℕ)) (b : Bool) → Each P (cond b (x ∷ xs) xs) → Each P xs
-tail-step P x xs true h = h.1
-tail-step P x xs false h = h
-
-pub live-each : (P : List ℕ → Type 0) (slots : List Slot) → Each P (live_tets slots) → (j : ℕ) → j < length slots → (slot_at slots j).live ≡ true → P (slot_at slots j).tet.0
-live-each P [] h j lt live = absurd (omega arith)
-live-each P (s ∷ slots) h zero lt live = live-step P s (live_tets slots) s.live refl live h
-live-each P (s ∷ slots) h (suc j) lt live = live-each P slots (tail-step P s.tet.0 (live_tets slots) s.live h) j (omega arith) live
 
 -- slots that were there and live are still positive
 pub old-positive : (start now : Parts) → IsGrown start now → All (λ (s : Slot). IsTet (length start.points) s.tet.0) start.slots → All (IsPositive start.points) (live_tets start.slots) → (j : ℕ) → j < length start.slots → (slot_at now.slots j).live ≡ true → IsPositive now.points (slot_at now.slots j).tet.0

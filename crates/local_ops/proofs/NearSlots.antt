@@ -1,5 +1,5 @@
 -- The slots that a try may kill: they were live, and their tetrahedra are positive.
-use Rattle.std.proofs.Common.{◌≡◌, ℕ, zero, suc, ◌+◌, ◌-◌, ◌<◌, ◌≤◌, Bool, true, false, cond, List, [], ◌∷◌, map, length, drop, All, refl, sym, ◌∙◌, ap, subst, inl, inr, arith, nat_abs}
+use Rattle.std.proofs.Common.{◌≡◌, ℕ, suc, ◌+◌, ◌-◌, ◌<◌, ◌≤◌, Bool, true, List, [], ◌∷◌, map, length, drop, All, sym, ◌∙◌, ap, subst, inl, inr, arith, nat_abs}
 use Rattle.std.specs.List.{list_all, AllByRecursion as Each}
 use Rattle.std.proofs.lemmas.Bool.{cases_Bool, and_parts}
 use Rattle.std.proofs.lemmas.List.{get_or-drop, length-drop}
@@ -13,26 +13,12 @@ use Rattle.tet_slots.specs.declared.slot.Slot.{Slot}
 use Rattle.tet_slots.specs.Slots.{slot_at, no_slot}
 use Rattle.tet_slots.specs.Searches.{numbers_of}
 use Rattle.mesh_store.specs.Parts.{Parts, StoreView, live_tets, mesh_in}
-use Rattle.mesh_store.proofs.ForCallers.{well_formed}
+use Rattle.mesh_store.proofs.ForCallers.{well_formed, live-each}
 use Rattle.local_ops.specs.Attempts.{IsMade, start_of, may_go}
 use Rattle.local_ops.specs.Measures.{corners_at}
 use Rattle.local_ops.proofs.Aims.{near-is}
 use Rattle.local_ops.proofs.Killed.{may_go-is}
 use Rattle.local_ops.proofs.Replacing.{is_near}
-
-live-step : (P : List ℕ → Type 0) (s : Slot) (xs : List (List ℕ)) (b : Bool) → s.live ≡ b → b ≡ true → Each P (cond b (s.tet.0 ∷ xs) xs) → P s.tet.0
-live-step P s xs true e f h = h.0
-live-step P s xs false e f h = cc f
-
-tail-step : (P : List ℕ → Type 0) (x : List ℕ) (xs : List (List ℕ)) (b : Bool) → Each P (cond b (x ∷ xs) xs) → Each P xs
-tail-step P x xs true h = h.1
-tail-step P x xs false h = h
-
--- what holds of the live tetrahedra holds of that in a live slot
-pub live-each : (P : List ℕ → Type 0) (slots : List Slot) → Each P (live_tets slots) → (j : ℕ) → j < length slots → (slot_at slots j).live ≡ true → P (slot_at slots j).tet.0
-live-each P [] h j lt live = absurd (omega arith)
-live-each P (s ∷ slots) h zero lt live = live-step P s (live_tets slots) s.live refl live h
-live-each P (s ∷ slots) h (suc j) lt live = live-each P slots (tail-step P s.tet.0 (live_tets slots) s.live h) j (omega arith) live
 
 -- likewise of those from a first slot on
 pub live-from : (P : List ℕ → Type 0) (first i : ℕ) (slots : List Slot) → first ≤ i → i < length slots → (slot_at slots i).live ≡ true → All P (live_tets (drop first slots)) → P (slot_at slots i).tet.0

@@ -19,7 +19,7 @@ use Rattle.mesh_types.proofs.ForCallers.{Among, among-all, count-append, count-s
 use Rattle.mesh_store.specs.Exchanges.{tet_in}
 use Rattle.mesh_store.specs.Parts.{Parts, live_tets, mesh_in}
 use Rattle.mesh_store.specs.Sound.{IsSoundStore}
-use Rattle.mesh_store.proofs.ForCallers.{outside-is}
+use Rattle.mesh_store.proofs.ForCallers.{outside-is, live-each}
 use Rattle.local_ops.specs.Attempts.{PassesBelow}
 use Rattle.local_ops.specs.Measures.{corners_at, has_single_faces, is_positive}
 use Rattle.local_ops.specs.Swaps.{AreSides, IsSeenWorse, has_new_once, is_face_of, is_new_once, three_of}
@@ -27,7 +27,6 @@ use Rattle.local_ops.specs.declared.swapping.Sides.{Sides}
 use Rattle.local_ops.proofs.FaceCounts.{count-near}
 use Rattle.local_ops.proofs.InOrder.{passes_more, refused}
 use Rattle.local_ops.proofs.Lower.{below-largest}
-use Rattle.local_ops.proofs.NearSlots.{live-each}
 use Rattle.local_ops.proofs.NewTets.{IsThree, all-true, face-three, positive-passes, single-passes, true-at}
 use Rattle.local_ops.proofs.Swapped.{first-side, second-side, points-same, swapped-is, within}
 

@@ -1,7 +1,7 @@
 -- For callers: the mesh of a store, its faces, what is killed, exchanged and found.
 pub use Rattle.mesh_store.proofs.KeySets.{tracked-triples}
 pub use Rattle.mesh_store.proofs.FacePieces.{rising-risen}
-pub use Rattle.mesh_store.proofs.LiveSlots.{live-append}
+pub use Rattle.mesh_store.proofs.LiveSlots.{live-append, live-each}
 pub use Rattle.mesh_store.proofs.MeshLemmas.{well_formed, within}
 pub use Rattle.mesh_store.proofs.Killing.{tets-numbers}
 pub use Rattle.mesh_store.proofs.Moves.{among-filter}

@@ -1,5 +1,6 @@
 -- The live slots of joined lists, of slots that are killed by a test, and after refining.
-use Rattle.std.proofs.Common.{◌≡◌, ℕ, ◌+◌, ◌<◌, Bool, true, false, ◌&&◌, not, cond, List, [], ◌∷◌, ◌++◌, map, filter, length, refl, ◌∙◌, ap, arith, length-append}
+use Rattle.std.proofs.Common.{◌≡◌, ℕ, zero, suc, ◌+◌, ◌<◌, Bool, true, false, ◌&&◌, not, cond, List, [], ◌∷◌, ◌++◌, map, filter, length, refl, ◌∙◌, ap, arith, length-append}
+use Rattle.std.specs.List.{AllByRecursion as Each}
 use Rattle.std.proofs.lemmas.List.{length-map, get_or_append_left, get_or-map}
 use Rattle.tet_slots.specs.declared.slot.Slot.{Slot}
 use Rattle.tet_slots.specs.Slots.{slot_at, no_slot}
@@ -56,3 +57,16 @@ module _ (cuts : List Cut) (k : ℕ) where
       live-append (map (killed_if (is_touched cuts)) slots) (map live_slot (slot_pieces cuts k slots))
       ∙ (ap (λ (xs : List (List ℕ)). xs ++ live_tets (map live_slot (slot_pieces cuts k slots))) (live-killed (is_touched cuts) slots)
       ∙ ap (λ (xs : List (List ℕ)). filter (λ x. not (is_touched cuts x)) (live_tets slots) ++ xs) (live-made (slot_pieces cuts k slots)))
+
+live-step : (P : List ℕ → Type 0) (s : Slot) (xs : List (List ℕ)) (b : Bool) → s.live ≡ b → b ≡ true → Each P (cond b (s.tet.0 ∷ xs) xs) → P s.tet.0
+live-step P s xs true e f h = h.0
+live-step P s xs false e f h = cc f
+
+tail-step : (P : List ℕ → Type 0) (x : List ℕ) (xs : List (List ℕ)) (b : Bool) → Each P (cond b (x ∷ xs) xs) → Each P xs
+tail-step P x xs true h = h.1
+tail-step P x xs false h = h
+
+pub live-each : (P : List ℕ → Type 0) (slots : List Slot) → Each P (live_tets slots) → (j : ℕ) → j < length slots → (slot_at slots j).live ≡ true → P (slot_at slots j).tet.0
+live-each P [] h j lt live = absurd (omega arith)
+live-each P (s ∷ slots) h zero lt live = live-step P s (live_tets slots) s.live refl live h
+live-each P (s ∷ slots) h (suc j) lt live = live-each P slots (tail-step P s.tet.0 (live_tets slots) s.live h) j (omega arith) live

@@ -7,8 +7,8 @@ use Rattle.grid.specs.declared.shapes.Point.{Point}
 use Rattle.grid.specs.Simplices.{all_faces, is_rotation, reversed, count}
 use Rattle.grid.specs.Determinants.{point_at}
 use Rattle.mesh_types.proofs.Sums.{total, bit, total-same, total-neg, total-swap, total-scaled}
-use Rattle.grid.proofs.ForCallers.{Each-weaker, same_bools}
-use Rattle.mesh_types.proofs.Same.{Turn, still, once, twice, turn_of, rotation_from, reversed-reversed, turn_back}
+use Rattle.grid.proofs.ForCallers.{Each-weaker, same_bools, reversed-reversed}
+use Rattle.mesh_types.proofs.Same.{Turn, still, once, twice, turn_of, rotation_from, turn_back}
 use Rattle.mesh_types.proofs.Counts.{count-number}
 use Rattle.mesh_types.proofs.Cones.{cone, cone-turned, det-reversed}
 use Rattle.int_algebra.proofs.Laws.{linear, one-mul_ℤ}

@@ -3,7 +3,7 @@ use Rattle.std.proofs.Common.{◌≡◌, ◌≢◌, ◌⊎◌, ℕ, List, [], �
 use Rattle.std.proofs.lemmas.Bool.{eq-eqb, eqb-true, and_parts, and_from, or_cases, or_left, or_right, true≢false}
 use Rattle.grid.specs.Simplices.{has, put, replaced, equal3, is_rotation, reversed, has_all, same_corners}
 use Rattle.mesh_types.proofs.Pieces.{IsSameness}
-use Rattle.grid.proofs.ForCallers.{equal3-refl, same_bools, has_cases, put_cases, has-replaced_new}
+use Rattle.grid.proofs.ForCallers.{equal3-refl, same_bools, has_cases, put_cases, has-replaced_new, reversed-reversed}
 
 -- ---- rotations
 equal3_parts : (a b c u v w : ℕ) → equal3 a b c u v w ≡ true → (a ≡ u) × (b ≡ v) × (c ≡ w)
@@ -77,14 +77,6 @@ rotations = record {
   moves = λ a b x y h. rotation_from _ _ (rotation_moves a b x y (turn_of x y h));
   keeps = λ c x y h. rotation_keeps c x y (turn_of x y h);
 }
-
--- ---- reversed faces
-pub reversed-reversed : (f : List ℕ) → reversed (reversed f) ≡ f
-reversed-reversed [] = refl
-reversed-reversed (a ∷ []) = refl
-reversed-reversed (a ∷ b ∷ []) = refl
-reversed-reversed (a ∷ b ∷ c ∷ []) = refl
-reversed-reversed (a ∷ b ∷ c ∷ d ∷ f) = refl
 
 pub has-reversed : (f : List ℕ) (o : ℕ) → has (reversed f) o ≡ has f o
 has-reversed [] o = refl

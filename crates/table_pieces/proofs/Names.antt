@@ -7,14 +7,13 @@ use Rattle.grid.specs.Simplices.{has, rising, Rises, IsTet}
 use Rattle.mesh_types.specs.declared.cut.Cut.{Cut}
 use Rattle.mesh_types.specs.CutLists.{AreCuts}
 use Rattle.mesh_types.specs.Refines.{sub_all}
-use Rattle.grid.proofs.ForCallers.{Each-weaker, Each-both, has_cases, has-rising, rising-Rises}
+use Rattle.grid.proofs.ForCallers.{Each-weaker, Each-both, has_cases, has-rising, rising-Rises, has-get_or}
 use Rattle.mesh_types.proofs.ForCallers.{Each-filter, Each-passed}
 use Rattle.pieces.proofs.SplitLemmas.{no_cut}
 use Rattle.cut_tables.specs.Cutting.{RankEdge, all_edges, edges_of, has_label, pieces_of}
 use Rattle.table_pieces.specs.Labels.{AreLabels, ArePlaces, arranged, IsLookedUp, number_at, numbered, renamed}
 use Rattle.table_pieces.proofs.CutEdges.{sub_all-by_lookup}
 use Rattle.table_pieces.proofs.Lookups.{Rise}
-use Rattle.table_pieces.proofs.Places.{has-at}
 use Rattle.table_pieces.proofs.Ranks.{one-place, places-are}
 use Rattle.table_pieces.proofs.Renaming.{IsInjectiveOn}
 use Rattle.table_pieces.proofs.Tetrahedra.{ranks, IsLabel}
@@ -131,7 +130,7 @@ module _ (n : ℕ) (cuts : List Cut) (x corners numbers places : List ℕ) (mask
 
   rank-below : (c : ℕ) → c < 4 → number_at numbers c < n
   rank-below c lt =
-      let there : has x (get_or corners c 0) ≡ true = sym (has-rising x (get_or corners c 0)) ∙ (ap (λ (y : List ℕ). has y (get_or corners c 0)) (sym is) ∙ has-at corners c (subst (λ m. c < m) (sym four) lt)) in
+      let there : has x (get_or corners c 0) ≡ true = sym (has-rising x (get_or corners c 0)) ∙ (ap (λ (y : List ℕ). has y (get_or corners c 0)) (sym is) ∙ has-get_or corners c (subst (λ m. c < m) (sym four) lt)) in
       subst (λ m. m < n) (sym (rank-at c lt)) (each-has (λ m. m < n) x (recursion_from_All (λ m. m < n) x tet.in_range) (get_or corners c 0) there)
 
   -- the label of an edge that a cut was found for

@@ -4,7 +4,7 @@ use Rattle.std.specs.List.{flat_map, AllByRecursion as Each}
 use Rattle.std.proofs.lemmas.Bool.{or_cases, or_left, or_right, eqb-true, eq-eqb, true≢false}
 use Rattle.grid.specs.Simplices.{has, put, replaced, sub}
 use Rattle.cut_tables.specs.Cutting.{RankEdge, split_in_turn}
-use Rattle.grid.proofs.ForCallers.{same_bools}
+use Rattle.grid.proofs.ForCallers.{same_bools, has-get_or}
 use Rattle.table_pieces.specs.Labels.{arranged}
 use Rattle.table_pieces.proofs.Renaming.{through_each, either_way}
 
@@ -12,12 +12,6 @@ use Rattle.table_pieces.proofs.Renaming.{through_each, either_way}
 pub record IsArrangement (n : ℕ) (places : List ℕ) : Type 0 where
   pub in_range : Each (λ p. p < n) places
   pub all_there : (i : ℕ) → i < n → has places i ≡ true
-
--- ---- corners
-pub has-at : (x : List ℕ) (p : ℕ) → p < length x → has x (get_or x p 0) ≡ true
-has-at [] p lt = absurd (omega arith)
-has-at (a ∷ x) zero lt = or_left _ _ (eq-eqb a a refl)
-has-at (a ∷ x) (suc p) lt = or_right _ _ (has-at x p (omega arith))
 
 place_of : (x : List ℕ) (c : ℕ) → has x c ≡ true → (p : ℕ) × (p < length x) × (get_or x p 0 ≡ c)
 place_of [] c h = absurd (true≢false (sym h))
@@ -38,7 +32,7 @@ has-map f (a ∷ xs) i h = elim (or_cases _ _ h) [
 has-arranged-only : (x : List ℕ) (c : ℕ) (places : List ℕ) → Each (λ p. p < length x) places → has (arranged places x) c ≡ true → has x c ≡ true
 has-arranged-only x c [] r h = absurd (true≢false (sym h))
 has-arranged-only x c (p ∷ places) r h = elim (or_cases _ _ h) [
-  | inl e ↦ subst (λ a. has x a ≡ true) (eqb-true _ c e) (has-at x p r.0)
+  | inl e ↦ subst (λ a. has x a ≡ true) (eqb-true _ c e) (has-get_or x p r.0)
   | inr e ↦ has-arranged-only x c places r.1 e
 ]
 

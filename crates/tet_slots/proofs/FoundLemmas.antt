@@ -1,8 +1,8 @@
 -- What a search through the bins finds, sorted and without repeats, is what a scan finds.
 use Rattle.std.proofs.Common.{Some, slice_get, eqb, ◌≡◌, ℕ, zero, suc, ◌+◌, ◌<◌, ◌≤◌, Bool, true, false, cond, ◌&&◌, ◌||◌, nat_eq, List, [], ◌∷◌, ◌++◌, length, get_or, All, refl, sym, subst, ◌∙◌, ap, inl, inr, arith}
-use Rattle.std.specs.List.{filter, range_with_len, Contains, AllByRecursion, AllPairs, dedup}
+use Rattle.std.specs.List.{filter, range_with_len, Contains, AllPairs, dedup}
 use Rattle.std.specs.List.Sorted.{IsStrictlyIncreasing, IsPermutation}
-use Rattle.std.proofs.lemmas.Bool.{cases_Bool, cases_eq, cases_lt, eqb-true, eq-eqb, ne_eqb, false≢true, or_cases, or_left, or_right, and_parts, and_from}
+use Rattle.std.proofs.lemmas.Bool.{cases_Bool, cases_lt, eqb-true, eq-eqb, false≢true, or_cases, or_left, or_right, and_parts, and_from}
 use Rattle.std.proofs.lemmas.List.Elements.{recursion_from_All, Contains-get_or}
 use Rattle.std.proofs.lemmas.List.FromFn.{length-range_with_len, get_or-range_with_len}
 use Rattle.std.proofs.lemmas.List.Kept.{AllPairs-from_increasing, IsStrictlyIncreasing-filter, Contains-dedup_nat, Contains-from_dedup}
@@ -14,7 +14,7 @@ use Rattle.grid.specs.Simplices.{has, Rises}
 use Rattle.tet_slots.specs.declared.bins.Bin.{Bin}
 use Rattle.tet_slots.specs.Bins.{same_bin, numbers_in, in_bin}
 use Rattle.tet_slots.proofs.BinLemmas.{same_bin-true}
-use Rattle.grid.proofs.ForCallers.{has-append, shorter}
+use Rattle.grid.proofs.ForCallers.{has-append, shorter, rises_same}
 use Rattle.tet_slots.specs.Quests.{Grows, Finds}
 
 -- ---- membership
@@ -142,42 +142,6 @@ rises-from (a ∷ x) h = (
     longer : (k n : ℕ) → k < n → suc k < suc n
     longer k n h = omega arith
 
-above-none : (a : ℕ) (x : List ℕ) → AllByRecursion (λ c. a < c) x → has x a ≡ false
-above-none a [] h = refl
-above-none a (b ∷ x) h = ap (λ (t : Bool). t || has x a) (ne_eqb b a (λ e. apart a b h.0 e)) ∙ above-none a x h.1
-  where
-    apart : (a b : ℕ) → a < b → b ≡ a → ⊥
-    apart a b h e = omega arith
-
-above-at : (a : ℕ) (x : List ℕ) (c : ℕ) → AllByRecursion (λ c. a < c) x → has x c ≡ true → a < c
-above-at a [] c h g = absurd (false≢true g)
-above-at a (b ∷ x) c h g = elim (or_cases (nat_eq b c) (has x c) g) [ inl e ↦ subst (λ n. a < n) (eqb-true b c e) h.0 | inr e ↦ above-at a x c h.1 e ]
-
-has-first : (a : ℕ) (x : List ℕ) → has (a ∷ x) a ≡ true
-has-first a x = or_left (nat_eq a a) (has x a) (eq-eqb a a refl)
-
-least : (a b : ℕ) (x y : List ℕ) → Rises (b ∷ y) → ((c : ℕ) → has (a ∷ x) c ≡ true → has (b ∷ y) c ≡ true) → b ≤ a
-least a b x y r h = elim (or_cases (nat_eq b a) (has y a) (h a (has-first a x))) [
-  | inl e ↦ let q = eqb-true b a e in omega arith
-  | inr e ↦ let g = above-at b y a r.0 e in omega arith
-]
-
-pub rises-same : (x y : List ℕ) → Rises x → Rises y → ((c : ℕ) → has x c ≡ has y c) → x ≡ y
-rises-same [] [] r s h = refl
-rises-same [] (b ∷ y) r s h = absurd (false≢true (h b ∙ has-first b y))
-rises-same (a ∷ x) [] r s h = absurd (false≢true (sym (h a) ∙ has-first a x))
-rises-same (a ∷ x) (b ∷ y) r s h =
-    let p : b ≤ a = least a b x y s (λ c g. sym (h c) ∙ g) in
-    let q : a ≤ b = least b a y x r (λ c g. h c ∙ g) in
-    let e : a ≡ b = omega arith in
-    ap (λ (n : ℕ). n ∷ x) e ∙ ap (λ (z : List ℕ). b ∷ z) (rises-same x y r.1 s.1 (λ c. elim (cases_eq c a) [
-      | inl f ↦ subst (λ n. has x n ≡ has y n) (sym f) (above-none a x r.0 ∙ sym (subst (λ n. has y n ≡ false) (sym e) (above-none b y s.0)))
-      | inr f ↦ tail (has x c) (has y c) (nat_eq a c) (nat_eq b c) (ne_eqb a c (λ g. f (sym g))) (ne_eqb b c (λ g. f (sym (e ∙ g)))) (h c)
-    ]))
-  where
-    tail : (p q m n : Bool) → m ≡ false → n ≡ false → (m || p) ≡ (n || q) → p ≡ q
-    tail p q m n e f h = ap (λ t. t || p) (sym e) ∙ h ∙ ap (λ t. t || q) f
-
 range-rising : (n : ℕ) → IsStrictlyIncreasing (range_with_len 0 n)
 range-rising n k l =
     let long : k + 1 < n = omega (arith, length-range_with_len 0 n) in
@@ -191,7 +155,7 @@ has-range n i l = has-from_Contains (range_with_len 0 n) i (i, omega (arith, len
 -- a rising list of the numbers below n that pass is the filter of the range
 pub found-all : (test : ℕ → Bool) (n : ℕ) (found : List ℕ) → IsStrictlyIncreasing found → ((i : ℕ) → has found i ≡ true → (i < n) × (test i ≡ true)) → ((i : ℕ) → i < n → test i ≡ true → has found i ≡ true) → found ≡ filter test (range_with_len 0 n)
 found-all test n found rising sound complete =
-    rises-same found (filter test (range_with_len 0 n)) (rises-from found (AllPairs-from_increasing found rising))
+    rises_same found (filter test (range_with_len 0 n)) (rises-from found (AllPairs-from_increasing found rising))
     (rises-from (filter test (range_with_len 0 n)) (AllPairs-from_increasing (filter test (range_with_len 0 n)) (IsStrictlyIncreasing-filter test (range_with_len 0 n) (range-rising n))))
     (λ c. elim (cases_Bool (has found c)) [
       | inl e ↦ let s = sound c e in e ∙ sym (has-filter test (range_with_len 0 n) c ∙ and_from (has (range_with_len 0 n) c) (test c) (has-range n c s.0) s.1)

@@ -1,28 +1,17 @@
 -- The index after a step on the keys.
-use Rattle.std.proofs.Common.{◌≡◌, ℕ, suc, ◌+◌, ◌<◌, ◌^◌, Bool, true, false, cond, nat_eq, None, Some, List, [], ◌∷◌, ◌++◌, All, length, refl, sym, subst, ◌∙◌, ap, arith}
-use Rattle.std.specs.List.{AllByRecursion}
-use Rattle.std.proofs.lemmas.Bool.{or_from, ne_eqb}
+use Rattle.std.proofs.Common.{◌≡◌, ℕ, suc, ◌+◌, ◌<◌, ◌^◌, Bool, true, false, cond, None, Some, List, [], ◌∷◌, ◌++◌, All, length, refl, sym, subst, ◌∙◌, ap, arith}
 use Rattle.std.proofs.lemmas.List.{length-append}
 use Rattle.std.proofs.lemmas.List.Elements.{All-pop}
 use Rattle.smallvec.specs.SmallVec.{SmallVec}
 use Rattle.indexmap.specs.IndexMap.{IndexMap}
 use Rattle.grid.specs.declared.shapes.Face.{Face}
 use Rattle.grid.specs.Meshes.{IsTriple}
-use Rattle.grid.specs.Simplices.{has, AreDifferent, Rises}
+use Rattle.grid.specs.Simplices.{has}
 use Rattle.tracked.specs.Keys.{Keys, same_face, state_of, put}
 use Rattle.tracked.specs.Places.{IsChanged, IsIndexed, places_at, places_of, and_last, but_last}
 use Rattle.tracked.proofs.KeyLemmas.{put-new}
 use Rattle.tracked.proofs.KeyFacts.{All-put, All-key}
 use Rattle.tracked.proofs.PlaceLemmas.{but_last-push}
-
--- ---- rising numbers are different
-none-above : (a : ℕ) (xs : List ℕ) → AllByRecursion (λ b. a < b) xs → has xs a ≡ false
-none-above a [] h = refl
-none-above a (b ∷ xs) h = or_from (nat_eq b a) (has xs a) (ne_eqb b a (λ e. absurd (omega (arith, h.0, e)))) (none-above a xs h.1)
-
-pub AreDifferent-rising : (xs : List ℕ) → Rises xs → AreDifferent xs
-AreDifferent-rising [] h = tt
-AreDifferent-rising (a ∷ xs) h = (none-above a xs h.0, AreDifferent-rising xs h.1)
 
 -- ---- a key that is there
 places-put : (u k : ℕ) (f : Face) (b c : Bool) (keys : Keys) → state_of f keys ≡ Some c → places_of u k (put f b keys) ≡ places_of u k keys

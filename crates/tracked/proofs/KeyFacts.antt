@@ -10,6 +10,7 @@ use Rattle.grid.specs.declared.shapes.Face.{Face}
 use Rattle.grid.specs.Meshes.{IsTriple}
 use Rattle.grid.specs.Simplices.{Rises, same_triple}
 use Rattle.grid.specs.Views.{triples_of}
+use Rattle.grid.proofs.ForCallers.{same_bools}
 use Rattle.tracked.specs.Keys.{Keys, same_face, state_of, is_in, put, faces_in}
 use Rattle.tracked.proofs.KeyLemmas.{put-new}
 use Rattle.tracked.proofs.PairLemmas.{in-apart}
@@ -17,11 +18,6 @@ use Rattle.tracked.proofs.PairLemmas.{in-apart}
 -- ---- the test of two faces
 pub same-equal : (f g : Face) → same_face f g ≡ true → f ≡ g
 same-equal f g e = ap (λ (x : List ℕ). record { 0 = x }) ((bytes_eq-Decides f.0 g.0).0 e)
-
-pub same_bools : (p q : Bool) → (p ≡ true → q ≡ true) → (q ≡ true → p ≡ true) → p ≡ q
-same_bools true q f g = sym (f refl)
-same_bools false true f g = g refl
-same_bools false false f g = refl
 
 pub same_face-IsEquivalence : IsEquivalence same_face
 same_face-IsEquivalence = record {

@@ -7,7 +7,7 @@ use Rattle.grid.specs.Rims.{triples_at}
 use Rattle.grid.specs.Simplices.{has}
 use Rattle.grid.specs.Views.{triples_of}
 use Rattle.grid.specs.declared.shapes.Face.{Face}
-use Rattle.grid.proofs.ForCallers.{count_by-cons, count_by-cons_no, count_by-map}
+use Rattle.grid.proofs.ForCallers.{count_by-cons, count_by-cons_no, count_by-map, any-map}
 use Rattle.tracked.specs.Keys.{Keys, entry_at, faces_in, faces_at}
 use Rattle.tracked.specs.Places.{places_of}
 use Rattle.tracked.specs.RimEdges.{has_rim_edge}
@@ -97,11 +97,6 @@ count-with u v ((f, false) ∷ keys) = at (has f.0 u) (count-with u v keys)
 
 count-at : (u v : ℕ) (keys : Keys) → count_by (λ i. (entry_at keys i).1 && has (entry_at keys i).0.0 v) (places_of u 0 keys) ≡ triples_at (triples_of (faces_in keys)) u v
 count-at u v keys = sym (count_by-map (counts v) (entry_at keys) (places_of u 0 keys)) ∙ (ap (count_by (counts v)) (keys-at u keys) ∙ count-with u v keys)
-
--- ---- finding
-any-map : {X Y : Type 0} (p : Y → Bool) (f : X → Y) (xs : List X) → list_any p (map f xs) ≡ list_any (λ x. p (f x)) xs
-any-map p f [] = refl
-any-map p f (x ∷ xs) = ap (λ b. p (f x) || b) (any-map p f xs)
 
 module _ (all : List (List ℕ)) (u : ℕ) where
   abbrev is_found : Face × Bool → Bool

@@ -16,8 +16,8 @@ use Rattle.grid.specs.declared.shapes.Face.{Face}
 use Rattle.grid.specs.Meshes.{is_below, Ordered}
 use Rattle.grid.specs.Views.{triples_of}
 use Rattle.grid.specs.Simplices.{same_triple}
+use Rattle.grid.proofs.ForCallers.{same_bools}
 use Rattle.tracked.specs.Keys.{same_face}
-use Rattle.tracked.proofs.KeyFacts.{same_bools}
 
 abbrev pub face_cmp : Face → Face → Ordering
 face_cmp f g = slice_cmp nat_cmp f.0 g.0

@@ -1,8 +1,8 @@
 use Rattle.std.proofs.Common.{◌≡◌, ◌∙◌, length, sym, arith, rules, SFits, to_z-of_z}
 use mir.Syntax.{w128}
 use Rattle.grid.specs.Determinants.{det}
-use Rattle.cutting_rule.proofs.ForCallers.{det-four}
 use Rattle.plain_ops.proofs.after.det_of.Goals as goal
+use Rattle.mesh_types.proofs.ForCallers.{det-four}
 
 pub returns : goal.returns
 returns c =

@@ -4,8 +4,8 @@ use Rattle.std.proofs.Common.{to_z-of_z}
 use Rattle.std.specs.Int.Signed.{lt_z}
 use Rattle.std.proofs.lemmas.Int.{ints}
 use Rattle.grid.specs.Determinants.{det, det_at}
-use Rattle.cutting_rule.proofs.ForCallers.{det-four, corner-in}
 use Rattle.plain_ops.proofs.points.is_positive.Goals as goal
+use Rattle.mesh_types.proofs.ForCallers.{det-four, corner-in}
 
 pub det-requires-clause-a_in : goal.det-requires-clause-a_in
 det-requires-clause-a_in c = corner-in _ c.args.points.now c.args.tet.0 0 c.point_at.result c.requires.in_box c.requires.there.in_range (omega (arith, c.requires.there.four)) c.point_at.ensures

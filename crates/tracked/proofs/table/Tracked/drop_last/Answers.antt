@@ -1,9 +1,10 @@
-use Rattle.tracked.proofs.IndexLemmas.{AreDifferent-rising, indexed-popped, last-IsTriple}
+use Rattle.tracked.proofs.IndexLemmas.{indexed-popped, last-IsTriple}
 use Rattle.tracked.proofs.table.Tracked.drop_last.Goals as goal
+use Rattle.grid.proofs.ForCallers.{AreDifferent-Rises}
 
 pub leave_last-requires : goal.leave_last-requires
 leave_last-requires c =
-    AreDifferent-rising c.in-Some.face.0 (last-IsTriple (c.in-Some.face, c.in-Some.field-0-1) c.self.inside.keys.entries c.pop.new.self.entries c.in-Some.ensures.entries c.self.invariant.triples).rises
+    AreDifferent-Rises c.in-Some.face.0 (last-IsTriple (c.in-Some.face, c.in-Some.field-0-1) c.self.inside.keys.entries c.pop.new.self.entries c.in-Some.ensures.entries c.self.invariant.triples).rises
 
 pub invariant_of-self : goal.invariant_of-self
 invariant_of-self c =

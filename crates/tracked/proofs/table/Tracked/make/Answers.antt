@@ -2,14 +2,15 @@ use Rattle.std.proofs.Common.{◌≡◌, ◌+◌, ◌<◌, ◌^◌, length, get_
 use Rattle.tracked.specs.Keys.{Keys}
 use Rattle.tracked.specs.Places.{IsIndexed}
 use Rattle.tracked.proofs.KeyFacts.{IsTriple-from}
-use Rattle.tracked.proofs.IndexLemmas.{AreDifferent-rising, indexed-new}
+use Rattle.tracked.proofs.IndexLemmas.{indexed-new}
 use Rattle.tracked.proofs.table.Tracked.make.Goals as goal
+use Rattle.grid.proofs.ForCallers.{AreDifferent-Rises}
 
 pub enter-requires : goal.enter-requires
-enter-requires c = AreDifferent-rising c.args.f.0 c.requires.rises
+enter-requires c = AreDifferent-Rises c.args.f.0 c.requires.rises
 
 pub leave_last-requires : goal.leave_last-requires
-leave_last-requires c = AreDifferent-rising c.args.f.0 c.requires.rises
+leave_last-requires c = AreDifferent-Rises c.args.f.0 c.requires.rises
 
 pub invariant_of-self-in-Ok : goal.invariant_of-self-in-Ok
 invariant_of-self-in-Ok c =
