@@ -11,6 +11,10 @@ no_tet = record { 0 = [] }
 pub corner_points-corners-requires : goal.corner_points-corners-requires
 corner_points-corners-requires c = c.requires.tets_are c.loop-tet.tet-index no_tet (omega arith)
 
+pub signs-signs-requires : goal.signs-signs-requires
+signs-signs-requires c =
+    points-in largest_side c.args.points.now c.corner_points-corners.result (get_or c.args.tets.now c.loop-tet.tet-index no_tet).0 c.corner_points-corners.ensures c.requires.in_box (c.requires.tets_are c.loop-tet.tet-index no_tet (omega arith)).in_range
+
 pub push_section-requires-clause-corners_in : goal.push_section-requires-clause-corners_in
 push_section-requires-clause-corners_in c =
     points-in largest_side c.args.points.now c.corner_points-corners.result (get_or c.args.tets.now c.loop-tet.tet-index no_tet).0 c.corner_points-corners.ensures c.requires.in_box (c.requires.tets_are c.loop-tet.tet-index no_tet (omega arith)).in_range
