@@ -13,6 +13,9 @@ use grid::LARGEST_SIDE;
 use std::alloc::{AllocError, Global};
 use thiserror::Error;
 
+// The most room that a box has.
+const MOST_ROOM: u64 = LARGEST_SIDE as u64;
+
 /// Why a soup is not placed.
 #[derive(Clone, Copy, Debug, PartialEq, Eq, Error)]
 pub enum PlaceIssue {
@@ -67,7 +70,7 @@ pub fn place(alloc: Global, raw: &Raw, e: u32, cells: u32) -> Result<Soup, Place
 {
     let measure = measured(raw);
     let room = measure.extent + 2 * e as u64 + 4;
-    if room > u64::from(LARGEST_SIDE) {
+    if room > MOST_ROOM {
         return Err(PlaceIssue::TooWide(measure.extent));
     }
     let side = side_for(room.max(4 * cells as u64));
