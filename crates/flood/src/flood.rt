@@ -99,6 +99,7 @@ impl Flood {
         ensures fills { OnOk result (FillsFacets self.old self.new) }
         ensures done { OnOk result ((c : ℕ) → IsOn self.old.facet_of c tet → slice_index_or self.new.waiting c false ≡ false) }
     {
+        // The type says what holds of the fields before and after.
         let _ = &self.marks;
         for h in 4 * tet..4 * tet + 4 {
             let facet = self.chains.of[h] as usize;

@@ -1,5 +1,6 @@
 -- The two faces that a split puts between the pieces of a tetrahedron.
 use Rattle.std.proofs.Common.{◌≡◌, ◌≢◌, ℕ, ◌<◌, List, [], ◌∷◌, Bool, true, false, ◌&&◌, ◌||◌, eqb, ap, ap₂, refl, sym, subst, ◌∙◌, arith, inl, inr, ℤ, pos, ◌+ℤ◌, ◌≤ℤ◌}
+use Rattle.std.proofs.Math.Bool.{and_assoc, and_comm}
 use Rattle.std.proofs.lemmas.Bool.{cases_Bool, and_parts, true≢false}
 use Rattle.grid.specs.Simplices.{has, replaced, equal3, is_rotation, same_corners}
 use Rattle.mesh_types.proofs.Sums.{bit}
@@ -51,12 +52,11 @@ or_swap false true false = refl
 or_swap false false true = refl
 or_swap false false false = refl
 
-and_swap : (x y z : Bool) → ((x && y) && z) ≡ ((x && z) && y)
-and_swap false y z = refl
-and_swap true true true = refl
-and_swap true true false = refl
-and_swap true false true = refl
-and_swap true false false = refl
+equal3-swapped : (p q r a b c : ℕ) → equal3 p r q a c b ≡ equal3 p q r a b c
+equal3-swapped p q r a b c =
+    and_assoc (eqb p a) (eqb r c) (eqb q b)
+    ∙ ap (λ t. eqb p a && t) (and_comm (eqb r c) (eqb q b))
+    ∙ sym (and_assoc (eqb p a) (eqb q b) (eqb r c))
 
 pub is_rotation-turned : (p q r a b c : ℕ) → is_rotation (p ∷ q ∷ r ∷ []) (b ∷ c ∷ a ∷ []) ≡ is_rotation (p ∷ q ∷ r ∷ []) (a ∷ b ∷ c ∷ [])
 is_rotation-turned p q r a b c = or_turn (equal3 p q r a b c) (equal3 p q r b c a) (equal3 p q r c a b)
@@ -66,7 +66,7 @@ is_face-turned p q r = record { turned = λ a b c. ap bit (is_rotation-turned p 
 
 pub is_rotation-reversed : (p q r a b c : ℕ) → is_rotation (p ∷ r ∷ q ∷ []) (a ∷ c ∷ b ∷ []) ≡ is_rotation (p ∷ q ∷ r ∷ []) (a ∷ b ∷ c ∷ [])
 is_rotation-reversed p q r a b c =
-    ap₂ ◌||◌ (ap₂ ◌||◌ (and_swap (eqb p a) (eqb r c) (eqb q b)) (and_swap (eqb p c) (eqb r b) (eqb q a))) (and_swap (eqb p b) (eqb r a) (eqb q c))
+    ap₂ ◌||◌ (ap₂ ◌||◌ (equal3-swapped p q r a b c) (equal3-swapped p q r c a b)) (equal3-swapped p q r b c a)
     ∙ or_swap (equal3 p q r a b c) (equal3 p q r c a b) (equal3 p q r b c a)
 
 swap2 : (w z u : ℕ) → has (w ∷ z ∷ []) u ≡ false → has (z ∷ w ∷ []) u ≡ false

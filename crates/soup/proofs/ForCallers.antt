@@ -26,11 +26,10 @@ IsTriInBox-wider l m t le h = record {
 }
 
 -- ---- the side of a box is one of the grid, and fits its type
-side-most : (side : ℤ) → IsSide side → nat_abs side ≤ largest_side
-side-most side s = subst (λ z. nat_abs z ≤ largest_side) (sym s.is) (pow-le-pow_right (lit≤ tt) s.power_most)
-
 pub in-grid : (side : ℤ) (points : List Point) → IsSide side → All (IsInBox (nat_abs side)) points → All (IsInBox largest_side) points
-in-grid side points s all = λ k d lt. IsInBox-wider (nat_abs side) largest_side _ (side-most side s) (all k d lt)
+in-grid side points s all =
+    let most : nat_abs side ≤ largest_side = subst (λ z. nat_abs z ≤ largest_side) (sym s.is) (pow-le-pow_right (lit≤ tt) s.power_most) in
+    λ k d lt. IsInBox-wider (nat_abs side) largest_side _ most (all k d lt)
 
 pub side-SFits : (side : ℤ) → IsSide side → SFits w32 side
 side-SFits side s =

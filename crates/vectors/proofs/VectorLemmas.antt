@@ -41,7 +41,7 @@ unfolding dot
 length-NonNegative m = at_most (coordinates_then (m ∷ []) []) [] zero_ (length_ x_) (squares_ x_) refl tt
 
 -- numbers from 0 to n are at most n apart
-apart-IsWithin : (n : ℕ) (a b : ℤ) → IsUpTo n a → IsUpTo n b → IsWithin n (a -ℤ b)
+pub apart-IsWithin : (n : ℕ) (a b : ℤ) → IsUpTo n a → IsUpTo n b → IsWithin n (a -ℤ b)
 apart-IsWithin n a b h k = record { within = omega (arith, ints, h.low, h.high, k.low, k.high) }
 
 scaled-IsUpTo : (s n : ℕ) (t z : ℤ) → IsUpTo s t → IsUpTo n z → IsUpTo (s * n) (t *ℤ z)
