@@ -3,7 +3,7 @@ use Rattle.std.proofs.Common.{◌≡◌, ℕ, ◌*◌, ◌^◌, ◌<◌, ◌≤�
 use Rattle.std.proofs.lemmas.Bool.{lt-ltb, le-ltb}
 use Rattle.off_text.specs.declared.issue.OffKind.{OffKind}
 use Rattle.off_text.specs.declared.issue.OffKind.TheVariants.{BadNumber, NotWhole, TooLarge}
-use Rattle.off_text.specs.Numbers.{Parts, decimal, is_well_formed, is_whole, signed, value_of, whole_coordinate, is_negative, parts_of, without_sign, with_fraction, digits_of, after_digits}
+use Rattle.off_text.specs.Numbers.{Parts, decimal, is_well_formed, is_whole, with_sign, value_of, whole_coordinate, is_negative, parts_of, without_sign, with_fraction, digits_of, after_digits}
 use Rattle.off_text.proofs.Tokens.{by_test}
 use Rattle.off_text.proofs.Decimals.{front_passes}
 use Rattle.std.specs.List.{list_all}
@@ -15,24 +15,24 @@ coordinate_by word p answer is h = sym (ap (value_of (is_negative word)) is) ∙
 
 -- ---- the tests in turn
 pub bad_number : (negative : Bool) (p : Parts) → is_well_formed p ≡ false → value_of negative p ≡ Err BadNumber
-bad_number negative p formed = ap (λ t. cond (not t) (Err BadNumber) (cond (not (is_whole p)) (Err NotWhole) (cond (nat_lt (10 ^ 9) (decimal p.whole)) (Err TooLarge) (Ok (signed negative (decimal p.whole)))))) formed
+bad_number negative p formed = ap (λ t. cond (not t) (Err BadNumber) (cond (not (is_whole p)) (Err NotWhole) (cond (nat_lt (10 ^ 9) (decimal p.whole)) (Err TooLarge) (Ok (with_sign negative (decimal p.whole)))))) formed
 
-pub well_formed : (negative : Bool) (p : Parts) → is_well_formed p ≡ true → value_of negative p ≡ cond (not (is_whole p)) (Err NotWhole) (cond (nat_lt (10 ^ 9) (decimal p.whole)) (Err TooLarge) (Ok (signed negative (decimal p.whole))))
-well_formed negative p formed = ap (λ t. cond (not t) (Err BadNumber) (cond (not (is_whole p)) (Err NotWhole) (cond (nat_lt (10 ^ 9) (decimal p.whole)) (Err TooLarge) (Ok (signed negative (decimal p.whole)))))) formed
+pub well_formed : (negative : Bool) (p : Parts) → is_well_formed p ≡ true → value_of negative p ≡ cond (not (is_whole p)) (Err NotWhole) (cond (nat_lt (10 ^ 9) (decimal p.whole)) (Err TooLarge) (Ok (with_sign negative (decimal p.whole))))
+well_formed negative p formed = ap (λ t. cond (not t) (Err BadNumber) (cond (not (is_whole p)) (Err NotWhole) (cond (nat_lt (10 ^ 9) (decimal p.whole)) (Err TooLarge) (Ok (with_sign negative (decimal p.whole)))))) formed
 
 pub not_whole : (negative : Bool) (p : Parts) → is_well_formed p ≡ true → is_whole p ≡ false → value_of negative p ≡ Err NotWhole
-not_whole negative p formed whole = well_formed negative p formed ∙ ap (λ t. cond (not t) (Err NotWhole) (cond (nat_lt (10 ^ 9) (decimal p.whole)) (Err TooLarge) (Ok (signed negative (decimal p.whole))))) whole
+not_whole negative p formed whole = well_formed negative p formed ∙ ap (λ t. cond (not t) (Err NotWhole) (cond (nat_lt (10 ^ 9) (decimal p.whole)) (Err TooLarge) (Ok (with_sign negative (decimal p.whole))))) whole
 
-whole_is : (negative : Bool) (p : Parts) → is_well_formed p ≡ true → is_whole p ≡ true → value_of negative p ≡ cond (nat_lt (10 ^ 9) (decimal p.whole)) (Err TooLarge) (Ok (signed negative (decimal p.whole)))
-whole_is negative p formed whole = well_formed negative p formed ∙ ap (λ t. cond (not t) (Err NotWhole) (cond (nat_lt (10 ^ 9) (decimal p.whole)) (Err TooLarge) (Ok (signed negative (decimal p.whole))))) whole
+whole_is : (negative : Bool) (p : Parts) → is_well_formed p ≡ true → is_whole p ≡ true → value_of negative p ≡ cond (nat_lt (10 ^ 9) (decimal p.whole)) (Err TooLarge) (Ok (with_sign negative (decimal p.whole)))
+whole_is negative p formed whole = well_formed negative p formed ∙ ap (λ t. cond (not t) (Err NotWhole) (cond (nat_lt (10 ^ 9) (decimal p.whole)) (Err TooLarge) (Ok (with_sign negative (decimal p.whole))))) whole
 
 pub too_large : (negative : Bool) (p : Parts) (n : ℕ) → is_well_formed p ≡ true → is_whole p ≡ true → n ≡ min (decimal p.whole) (2 * 10 ^ 9) → 10 ^ 9 < n → value_of negative p ≡ Err TooLarge
-too_large negative p n formed whole is many = whole_is negative p formed whole ∙ ap (λ t. cond t (Err TooLarge) (Ok (signed negative (decimal p.whole)))) (lt-ltb (10 ^ 9) (decimal p.whole) (omega arith))
+too_large negative p n formed whole is many = whole_is negative p formed whole ∙ ap (λ t. cond t (Err TooLarge) (Ok (with_sign negative (decimal p.whole)))) (lt-ltb (10 ^ 9) (decimal p.whole) (omega arith))
 
-pub value_is : (negative : Bool) (p : Parts) (n : ℕ) → is_well_formed p ≡ true → is_whole p ≡ true → n ≡ min (decimal p.whole) (2 * 10 ^ 9) → n ≤ 10 ^ 9 → value_of negative p ≡ Ok (signed negative n)
+pub value_is : (negative : Bool) (p : Parts) (n : ℕ) → is_well_formed p ≡ true → is_whole p ≡ true → n ≡ min (decimal p.whole) (2 * 10 ^ 9) → n ≤ 10 ^ 9 → value_of negative p ≡ Ok (with_sign negative n)
 value_is negative p n formed whole is few =
     let same : decimal p.whole ≡ n = omega arith in
-    whole_is negative p formed whole ∙ ap (λ t. cond t (Err TooLarge) (Ok (signed negative (decimal p.whole)))) (le-ltb (10 ^ 9) (decimal p.whole) (omega arith)) ∙ ap (λ m. Ok (signed negative m)) same
+    whole_is negative p formed whole ∙ ap (λ t. cond t (Err TooLarge) (Ok (with_sign negative (decimal p.whole)))) (le-ltb (10 ^ 9) (decimal p.whole) (omega arith)) ∙ ap (λ m. Ok (with_sign negative m)) same
 
 -- the digits before the point are digits
 pub whole_digits : (p : Parts) (bytes : List ℕ) → p ≡ parts_of bytes → list_all is_ascii_digit p.whole ≡ true

@@ -1,32 +1,28 @@
 -- Numbers by their digits, with a largest one, and tests of each byte.
 use Rattle.std.proofs.Common.{◌≡◌, ℕ, suc, ◌+◌, ◌-◌, ◌*◌, ◌<◌, ◌≤◌, ◌&&◌, min, not, eqb, Bool, true, false, List, [], ◌∷◌, length, drop, take, slice_index, refl, sym, ap, ◌∙◌, arith}
 use Rattle.std.proofs.lemmas.Bool.{true≢false, eqb-true, and_parts}
-use Rattle.std.specs.List.{fold, list_all, prefix_len, take_while}
+use Rattle.std.specs.List.{list_all, prefix_len, take_while}
 use Rattle.std.specs.Char.{is_ascii_digit}
 use mathlib.Core.Bool.{and-false}
-use Rattle.off_text.specs.Numbers.{decimal, is_number, is_empty}
+use Rattle.off_text.specs.Numbers.{decimal, decimal_from, is_number, is_empty}
 use Rattle.off_text.proofs.Tokens.{by_test}
 use Rattle.off_text.proofs.Steps.{cut, passes, fails}
 
 -- ---- digits one after the other
--- the number where n came before the digits
-abbrev pub continued : ℕ → List ℕ → ℕ
-continued n digits = fold (λ m d. 10 * m + (d - 48)) n digits
-
-pub decimal_starts : (digits : List ℕ) → continued 0 digits ≡ decimal digits
+pub decimal_starts : (digits : List ℕ) → decimal_from 0 digits ≡ decimal digits
 unfolding decimal
 decimal_starts digits = refl
 
 -- a number above the largest stays above it
-saturates : (most m n : ℕ) (digits : List ℕ) → min m most ≡ min n most → min (continued m digits) most ≡ min (continued n digits) most
+saturates : (most m n : ℕ) (digits : List ℕ) → min m most ≡ min n most → min (decimal_from m digits) most ≡ min (decimal_from n digits) most
 saturates most m n [] h = h
 saturates most m n (d ∷ ds) h = let next : min (10 * m + (d - 48)) most ≡ min (10 * n + (d - 48)) most = omega arith in saturates most (10 * m + (d - 48)) (10 * n + (d - 48)) ds next
 
-pub decimal_goes_on : (most n next i total : ℕ) (digits : List ℕ) → i < length digits → next ≡ min (10 * n + (slice_index digits i - 48)) most → min (continued n (drop i digits)) most ≡ total → min (continued next (drop (i + 1) digits)) most ≡ total
+pub decimal_goes_on : (most n next i total : ℕ) (digits : List ℕ) → i < length digits → next ≡ min (10 * n + (slice_index digits i - 48)) most → min (decimal_from n (drop i digits)) most ≡ total → min (decimal_from next (drop (i + 1) digits)) most ≡ total
 decimal_goes_on most n next i total digits lt is h =
     let same : min next most ≡ min (10 * n + (slice_index digits i - 48)) most = omega arith in
     saturates most next (10 * n + (slice_index digits i - 48)) (drop (i + 1) digits) same
-    ∙ sym (ap (λ ds. min (continued n ds) most) (cut digits i lt)) ∙ h
+    ∙ sym (ap (λ ds. min (decimal_from n ds) most) (cut digits i lt)) ∙ h
 
 pub all_go_on : (test : ℕ → Bool) (i : ℕ) (bs : List ℕ) → i < length bs → list_all test (drop i bs) ≡ true → list_all test (drop (i + 1) bs) ≡ true
 all_go_on test i bs lt h = (and_parts (test (slice_index bs i)) _ (sym (ap (list_all test) (cut bs i lt)) ∙ h)).1

@@ -7,17 +7,17 @@ use Rattle.std.specs.Str.{all_ascii_digits}
 use Rattle.std.proofs.lemmas.Str.Parse.{IsNumeralModel, numerals_by_fold, tells_all_ascii_digits, digits_value_short}
 use Rattle.std.proofs.lemmas.Fmt.{digits_decimal, digits_value-decimal, decimal_nonempty}
 use Rattle.std.proofs.lemmas.List.Sums.{fold-append}
-use Rattle.off_text.specs.Numbers.{continued, decimal}
+use Rattle.off_text.specs.Numbers.{decimal_from, decimal}
 use Rattle.off_text.proofs.Steps.{cut}
 
 all_are : (ds : List ℕ) → list_all is_ascii_digit ds ≡ all_ascii_digits ds
 all_are [] = refl
 all_are (d ∷ ds) = ap (λ t. is_ascii_digit d && t) (all_are ds)
 
-model : IsNumeralModel (λ ds. all_ascii_digits ds ≡ true) (continued 0)
-model = numerals_by_fold _ tells_all_ascii_digits continued (record {
+model : IsNumeralModel (λ ds. all_ascii_digits ds ≡ true) (decimal_from 0)
+model = numerals_by_fold _ tells_all_ascii_digits decimal_from (record {
   empty = λ n. refl;
-  more = λ n c cs k. let same : 10 * n + (c - 48) ≡ n * 10 + (c - 48) = omega arith in ap (λ (m : ℕ). continued m cs) same;
+  more = λ n c cs k. let same : 10 * n + (c - 48) ≡ n * 10 + (c - 48) = omega arith in ap (λ (m : ℕ). decimal_from m cs) same;
 })
 
 -- k digits spell a number below 10 ^ k
@@ -25,20 +25,20 @@ pub digits_below : (ds : List ℕ) (k : ℕ) → list_all is_ascii_digit ds ≡ 
 unfolding decimal
 digits_below ds k digits few = digits_value_short model ds k (sym (all_are ds) ∙ digits) few
 
-pub digits_behind : (front back : List ℕ) → decimal (front ++ back) ≡ continued (decimal front) back
+pub digits_behind : (front back : List ℕ) → decimal (front ++ back) ≡ decimal_from (decimal front) back
 unfolding decimal
 digits_behind front back = fold-append (λ n d. 10 * n + (d - 48)) 0 front back
 
 -- further digits make a number no smaller
-pub continued_grows : (n : ℕ) (ds : List ℕ) → n ≤ continued n ds
-continued_grows n [] = omega arith
-continued_grows n (d ∷ ds) = omega (arith, continued_grows (10 * n + (d - 48)) ds)
+pub decimal_from_grows : (n : ℕ) (ds : List ℕ) → n ≤ decimal_from n ds
+decimal_from_grows n [] = omega arith
+decimal_from_grows n (d ∷ ds) = omega (arith, decimal_from_grows (10 * n + (d - 48)) ds)
 
-pub continued_step : (n i total : ℕ) (ds : List ℕ) → i < length ds → continued n (drop i ds) ≡ total → continued (10 * n + (slice_index ds i - 48)) (drop (i + 1) ds) ≡ total
-continued_step n i total ds lt h = sym (ap (continued n) (cut ds i lt)) ∙ h
+pub decimal_from_step : (n i total : ℕ) (ds : List ℕ) → i < length ds → decimal_from n (drop i ds) ≡ total → decimal_from (10 * n + (slice_index ds i - 48)) (drop (i + 1) ds) ≡ total
+decimal_from_step n i total ds lt h = sym (ap (decimal_from n) (cut ds i lt)) ∙ h
 
-pub continued_bound : (n i total : ℕ) (ds : List ℕ) → i < length ds → continued n (drop i ds) ≡ total → 10 * n + (slice_index ds i - 48) ≤ total
-continued_bound n i total ds lt h = omega (arith, continued_step n i total ds lt h, continued_grows (10 * n + (slice_index ds i - 48)) (drop (i + 1) ds))
+pub decimal_from_bound : (n i total : ℕ) (ds : List ℕ) → i < length ds → decimal_from n (drop i ds) ≡ total → 10 * n + (slice_index ds i - 48) ≤ total
+decimal_from_bound n i total ds lt h = omega (arith, decimal_from_step n i total ds lt h, decimal_from_grows (10 * n + (slice_index ds i - 48)) (drop (i + 1) ds))
 
 -- ---- written numbers
 pub written_digits : (n : ℕ) → n < 2 ^ 64 → list_all is_ascii_digit (written n) ≡ true

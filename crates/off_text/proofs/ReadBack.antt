@@ -15,7 +15,7 @@ use Rattle.off_text.specs.Text.{count_line, vertex_line, face_line, off_text, Is
 use Rattle.off_text.specs.Grammar.{◌>>=◌, next, keyword, first_count, count, edge_count, corner_count, index, coordinate, vertex, vertices, several, fan, fan_on, beyond_line, face, faces, reads}
 use Rattle.off_text.proofs.Whole.{after_faces}
 use Rattle.off_text.proofs.WrittenWords.{IsToken, IsBreak, space, feed, token_step, read_next, beyond_last}
-use Rattle.off_text.proofs.WrittenNumbers.{number_token, signed_token, count_said, first_count_said, no_edges_said, three_said, index_said, coordinate_said}
+use Rattle.off_text.proofs.WrittenNumbers.{number_token, with_sign_token, count_said, first_count_said, no_edges_said, three_said, index_said, coordinate_said}
 
 -- ---- vertices
 -- a line of three texts, and what follows it
@@ -27,7 +27,7 @@ abbrev after : ℕ → List ℕ → ℕ
 after p t = p + length t + 1
 
 read_coordinate : (end p b : ℕ) (z : ℤ) (rest : List ℕ) → IsWithin (10 ^ 9) z → IsBreak b → next (coordinate None) end (words_from false p (signed_decimal z ++ b ∷ rest)) ≡ Ok (z, words_from false (after p (signed_decimal z)) rest)
-read_coordinate end p b z rest few k = read_next (coordinate None) end p b (signed_decimal z) rest z (signed_token z few) k (λ w is. coordinate_said w z is few)
+read_coordinate end p b z rest few k = read_next (coordinate None) end p b (signed_decimal z) rest z (with_sign_token z few) k (λ w is. coordinate_said w z is few)
 
 vertex_read : (end p : ℕ) (x y z : ℤ) (rest : List ℕ) → IsWithin (10 ^ 9) x → IsWithin (10 ^ 9) y → IsWithin (10 ^ 9) z
     → vertex None end (words_from false p (signed_decimal x ++ 32 ∷ (signed_decimal y ++ 32 ∷ (signed_decimal z ++ 10 ∷ rest)))) ≡ Ok (x ∷ y ∷ z ∷ [], words_from false (after (after (after p (signed_decimal x)) (signed_decimal y)) (signed_decimal z)) rest)

@@ -13,8 +13,8 @@ use Rattle.std.specs.Char.{is_ascii_digit}
 use Rattle.int_algebra.specs.Within.{IsWithin}
 use Rattle.int_algebra.proofs.Bounds.{within_interval}
 use Rattle.off_text.specs.declared.issue.OffKind.TheVariants.{BadNumber, TooLarge}
-use Rattle.off_text.specs.Numbers.{Parts, decimal, signed, is_negative, without_sign, parts_of, with_fraction, digits_of, after_digits, is_well_formed}
-use Rattle.off_text.specs.Rounding.{raised, lowered, scaled, exponent_of, within_most, units_of, rounded_coordinate}
+use Rattle.off_text.specs.Numbers.{Parts, decimal, with_sign, is_negative, without_sign, parts_of, with_fraction, digits_of, after_digits, is_well_formed}
+use Rattle.off_text.specs.Rounding.{times_power, over_power, scale, exponent_of, within_most, units_of, rounded_coordinate}
 use Rattle.off_text.specs.Cut.{IsShort, cut}
 use Rattle.off_text.proofs.Tokens.{by_test}
 use Rattle.off_text.proofs.Steps.{few_pass}
@@ -32,44 +32,44 @@ ten_least i = omega (arith, ten_power 0 i (omega arith))
 pub too_large : (z : ℤ) → 10 ^ 9 < unsigned_abs z → within_most z ≡ Err TooLarge
 too_large z many = ap (λ t. cond t (Err TooLarge) (Ok z)) (lt-ltb (10 ^ 9) (unsigned_abs z) many)
 
-raised_size : (m : ℤ) (n least : ℕ) → least ≤ 10 ^ n → unsigned_abs m * least ≤ unsigned_abs (raised m n)
-raised_size m n least le =
-    let product : unsigned_abs (raised m n) ≡ unsigned_abs m * 10 ^ n = unsigned_abs-mul m (pos (10 ^ n)) in
+times_power_size : (m : ℤ) (n least : ℕ) → least ≤ 10 ^ n → unsigned_abs m * least ≤ unsigned_abs (times_power m n)
+times_power_size m n least le =
+    let product : unsigned_abs (times_power m n) ≡ unsigned_abs m * 10 ^ n = unsigned_abs-mul m (pos (10 ^ n)) in
     omega (arith, product, mul-le-mul (le_self (unsigned_abs m)) le)
   where
     le_self : (k : ℕ) → k ≤ k
     le_self k = omega arith
 
 -- a size that is too large already
-pub raised_too_large : (m : ℤ) (n : ℕ) → 10 ^ 9 < unsigned_abs m → within_most (raised m n) ≡ Err TooLarge
-raised_too_large m n many = too_large (raised m n) (omega (arith, raised_size m n 1 (ten_least n)))
+pub times_power_too_large : (m : ℤ) (n : ℕ) → 10 ^ 9 < unsigned_abs m → within_most (times_power m n) ≡ Err TooLarge
+times_power_too_large m n many = too_large (times_power m n) (omega (arith, times_power_size m n 1 (ten_least n)))
 
 quotient_zero : (z : ℤ) (k d : ℕ) → z ≡ pos k → k < d → int_div_euclid z (pos d) ≡ pos 0
 quotient_zero z k d is lt = ap (λ (y : ℤ). int_div_euclid y (pos d)) is ∙ ap (λ (q : ℕ). pos q) (div-eq_of_lt lt)
 
 -- less than a half
-lowered_zero : (m : ℤ) (u : ℕ) → 2 * unsigned_abs m < u → int_div_euclid (pos 2 *ℤ m +ℤ pos u) (pos (2 * u)) ≡ pos 0
-lowered_zero (pos n) u few =
+over_power_zero : (m : ℤ) (u : ℕ) → 2 * unsigned_abs m < u → int_div_euclid (pos 2 *ℤ m +ℤ pos u) (pos (2 * u)) ≡ pos 0
+over_power_zero (pos n) u few =
     let is : pos 2 *ℤ pos n +ℤ pos u ≡ pos (2 * n + u) = omega (arith, ints) in
     quotient_zero (pos 2 *ℤ pos n +ℤ pos u) (2 * n + u) (2 * u) is (omega (arith, few))
-lowered_zero (negsuc n) u few =
+over_power_zero (negsuc n) u few =
     let is : pos 2 *ℤ negsuc n +ℤ pos u ≡ pos (u - 2 * suc n) = omega (arith, ints, few) in
     quotient_zero (pos 2 *ℤ negsuc n +ℤ pos u) (u - 2 * suc n) (2 * u) is (omega (arith, few))
 
-pub zero_scaled : (x : ℤ) → scaled (pos 0) x ≡ pos 0
-zero_scaled (pos n) = ap (λ (k : ℕ). pos k) (omega arith)
-zero_scaled (negsuc n) = lowered_zero (pos 0) (10 ^ suc n) (omega (arith, ten_least (suc n)))
+pub zero_scale : (x : ℤ) → scale (pos 0) x ≡ pos 0
+zero_scale (pos n) = ap (λ (k : ℕ). pos k) (omega arith)
+zero_scale (negsuc n) = over_power_zero (pos 0) (10 ^ suc n) (omega (arith, ten_least (suc n)))
 
-pub far_down : (m x : ℤ) → IsWithin (10 ^ 32 - 1) m → x ≤ℤ negsuc 32 → scaled m x ≡ pos 0
+pub far_down : (m x : ℤ) → IsWithin (10 ^ 32 - 1) m → x ≤ℤ negsuc 32 → scale m x ≡ pos 0
 far_down m (pos n) few low = absurd (omega (arith, ints, low))
 far_down m (negsuc n) few low =
     let power : 33 ≤ suc n = omega (arith, ints, low) in
-    lowered_zero m (10 ^ suc n) (omega (arith, few.within, ten_power 33 (suc n) power))
+    over_power_zero m (10 ^ suc n) (omega (arith, few.within, ten_power 33 (suc n) power))
 
-pub far_up : (m x : ℤ) → (m ≡ pos 0 → ⊥) → pos 10 ≤ℤ x → within_most (scaled m x) ≡ Err TooLarge
+pub far_up : (m x : ℤ) → (m ≡ pos 0 → ⊥) → pos 10 ≤ℤ x → within_most (scale m x) ≡ Err TooLarge
 far_up m (pos n) some high =
     let power : 10 ≤ n = omega (arith, ints, high) in
-    too_large (raised m n) (omega (arith, raised_size m n (10 ^ 10) (ten_power 10 n power), not_zero m some))
+    too_large (times_power m n) (omega (arith, times_power_size m n (10 ^ 10) (ten_power 10 n power), not_zero m some))
   where
     not_zero : (z : ℤ) → (z ≡ pos 0 → ⊥) → 1 ≤ unsigned_abs z
     not_zero (pos zero) h = absurd (h refl)
@@ -91,13 +91,13 @@ below_zero x e f =
     let below : x <ℤ pos 0 = lt_z_yes (subst T (sym f) tt) in
     within_interval 32 x (omega (arith, ints, above)) (omega (arith, ints, below))
 
-pub scaled_down : (m x y : ℤ) → lt_z x (pos 0) ≡ true → y ≡ pos 0 -ℤ x → lowered m (unsigned_abs y) ≡ scaled m x
-scaled_down m (pos n) y test is = let below : pos n <ℤ pos 0 = lt_z_yes (subst T (sym test) tt) in absurd (omega (arith, ints, below))
-scaled_down m (negsuc n) y test is = let size : unsigned_abs y ≡ suc n = omega (arith, ints, is) in ap (lowered m) size
+pub scale_down : (m x y : ℤ) → lt_z x (pos 0) ≡ true → y ≡ pos 0 -ℤ x → over_power m (unsigned_abs y) ≡ scale m x
+scale_down m (pos n) y test is = let below : pos n <ℤ pos 0 = lt_z_yes (subst T (sym test) tt) in absurd (omega (arith, ints, below))
+scale_down m (negsuc n) y test is = let size : unsigned_abs y ≡ suc n = omega (arith, ints, is) in ap (over_power m) size
 
-pub scaled_up : (m x : ℤ) → lt_z x (pos 0) ≡ false → raised m (unsigned_abs x) ≡ scaled m x
-scaled_up m (pos n) test = refl
-scaled_up m (negsuc n) test = absurd (true≢false test)
+pub scale_up : (m x : ℤ) → lt_z x (pos 0) ≡ false → times_power m (unsigned_abs x) ≡ scale m x
+scale_up m (pos n) test = refl
+scale_up m (negsuc n) test = absurd (true≢false test)
 
 -- ---- exponents that are cut
 -- equal, or both so large, or both so small
@@ -109,13 +109,13 @@ is_zero (pos zero) = inl refl
 is_zero (pos (suc n)) = inr (λ e. omega (arith, ints, e))
 is_zero (negsuc n) = inr (λ e. omega (arith, ints, e))
 
-pub alike_scaled : (m x y : ℤ) → IsWithin (10 ^ 32 - 1) m → AreAlike x y → within_most (scaled m x) ≡ within_most (scaled m y)
-alike_scaled m x y few (inl same) = ap (λ (z : ℤ). within_most (scaled m z)) same
-alike_scaled m x y few (inr (inl up)) = elim (is_zero m) [
-  | inl none ↦ ap within_most (ap (λ (k : ℤ). scaled k x) none ∙ zero_scaled x ∙ sym (ap (λ (k : ℤ). scaled k y) none ∙ zero_scaled y))
+pub alike_scale : (m x y : ℤ) → IsWithin (10 ^ 32 - 1) m → AreAlike x y → within_most (scale m x) ≡ within_most (scale m y)
+alike_scale m x y few (inl same) = ap (λ (z : ℤ). within_most (scale m z)) same
+alike_scale m x y few (inr (inl up)) = elim (is_zero m) [
+  | inl none ↦ ap within_most (ap (λ (k : ℤ). scale k x) none ∙ zero_scale x ∙ sym (ap (λ (k : ℤ). scale k y) none ∙ zero_scale y))
   | inr some ↦ far_up m x some up.0 ∙ sym (far_up m y some up.1)
 ]
-alike_scaled m x y few (inr (inr down)) = ap within_most (far_down m x few down.0 ∙ sym (far_down m y few down.1))
+alike_scale m x y few (inr (inr down)) = ap within_most (far_down m x few down.0 ∙ sym (far_down m y few down.1))
 
 pub alike : (g : ℤ) (f d : ℕ) → f ≤ 32 → d ≤ 5 → AreAlike ((cut g -ℤ pos f) +ℤ pos d) ((g -ℤ pos f) +ℤ pos d)
 alike (pos n) f d few small = elim (cases_lt (2 * 10 ^ 9) n) [
@@ -136,10 +136,10 @@ cut_within (negsuc n) = minus_within (min (suc n) (2 * 10 ^ 9)) (omega arith)
     minus_within zero few = record { within = omega arith }
     minus_within (suc k) few = record { within = omega (arith, few) }
 
-pub signed_within : (negative : Bool) (n : ℕ) → n < 10 ^ 32 → IsWithin (10 ^ 32 - 1) (signed negative n)
-signed_within true zero few = record { within = omega arith }
-signed_within true (suc n) few = record { within = omega (arith, few) }
-signed_within false n few = record { within = omega (arith, few) }
+pub with_sign_within : (negative : Bool) (n : ℕ) → n < 10 ^ 32 → IsWithin (10 ^ 32 - 1) (with_sign negative n)
+with_sign_within true zero few = record { within = omega arith }
+with_sign_within true (suc n) few = record { within = omega (arith, few) }
+with_sign_within false n few = record { within = omega (arith, few) }
 
 -- ---- the parts of a word
 record HasParts (bytes : List ℕ) (p : Parts) : Type 0 where
@@ -189,12 +189,12 @@ units_are d word p is few formed =
 
 -- a coordinate by its number and its power of ten, with the exponent cut
 pub rounded_is : (d : ℕ) (word : List ℕ) (p : Parts) (m x : ℤ) → p ≡ parts_of (without_sign word) → length word ≤ 32 → is_well_formed p ≡ true → d ≤ 5
-    → m ≡ signed (is_negative word) (decimal (p.whole ++ p.fraction)) → x ≡ (cut (exponent_of p.rest) -ℤ pos (length p.fraction)) +ℤ pos d → within_most (scaled m x) ≡ rounded_coordinate d word
+    → m ≡ with_sign (is_negative word) (decimal (p.whole ++ p.fraction)) → x ≡ (cut (exponent_of p.rest) -ℤ pos (length p.fraction)) +ℤ pos d → within_most (scale m x) ≡ rounded_coordinate d word
 rounded_is d word p m x is few formed small m_is x_is =
     let short = short_parts word p is few in
     let exact : ℤ = (exponent_of p.rest -ℤ pos (length p.fraction)) +ℤ pos d in
-    let size : IsWithin (10 ^ 32 - 1) m = subst (IsWithin (10 ^ 32 - 1)) (sym m_is) (signed_within (is_negative word) (decimal (p.whole ++ p.fraction)) (short_number p short)) in
-    ap (λ (y : ℤ). within_most (scaled m y)) x_is
-    ∙ alike_scaled m _ exact size (alike (exponent_of p.rest) (length p.fraction) d (omega (arith, short.few)) small)
-    ∙ ap (λ (k : ℤ). within_most (scaled k exact)) m_is
+    let size : IsWithin (10 ^ 32 - 1) m = subst (IsWithin (10 ^ 32 - 1)) (sym m_is) (with_sign_within (is_negative word) (decimal (p.whole ++ p.fraction)) (short_number p short)) in
+    ap (λ (y : ℤ). within_most (scale m y)) x_is
+    ∙ alike_scale m _ exact size (alike (exponent_of p.rest) (length p.fraction) d (omega (arith, short.few)) small)
+    ∙ ap (λ (k : ℤ). within_most (scale k exact)) m_is
     ∙ sym (units_are d word p is few formed)

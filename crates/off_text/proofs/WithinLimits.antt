@@ -12,7 +12,7 @@ use Rattle.soup.specs.declared.raw.Raw.{Raw}
 use Rattle.soup.specs.Limits.{IsVertex, IsFaceBelow, IsRaw}
 use Rattle.off_text.specs.declared.issue.OffKind.{OffKind}
 use Rattle.off_text.specs.Words.{Word}
-use Rattle.off_text.specs.Numbers.{is_number, decimal, whole_coordinate, value_of, is_well_formed, is_whole, signed, is_negative, parts_of, without_sign, Parts}
+use Rattle.off_text.specs.Numbers.{is_number, decimal, whole_coordinate, value_of, is_well_formed, is_whole, with_sign, is_negative, parts_of, without_sign, Parts}
 use Rattle.off_text.specs.Rounding.{coordinate_of, rounded_coordinate, units_of}
 use Rattle.off_text.specs.Grammar.{Refusal, ◌>>=◌, next, keyword, first_count, count, edge_count, corner_count, index, at_place, coordinate, vertex, vertices, several, beyond_line, fan, fan_on, face, faces, reads}
 use Rattle.off_text.specs.Scans.{rest_at}
@@ -60,16 +60,16 @@ first_count_few : (w : Word) (n : ℕ) → first_count w ≡ Ok n → n ≤ most
 first_count_few w n is = count_few w n (guard_ok (bytes_eq w.bytes (codes "BINARY")) _ _ n is).1
 
 -- ---- vertices
-signed_within : (negative : Bool) (n : ℕ) → n ≤ 10 ^ 9 → IsWithin (10 ^ 9) (signed negative n)
-signed_within true n few = record { within = omega (arith, ints) }
-signed_within false n few = record { within = omega (arith, ints) }
+with_sign_within : (negative : Bool) (n : ℕ) → n ≤ 10 ^ 9 → IsWithin (10 ^ 9) (with_sign negative n)
+with_sign_within true n few = record { within = omega (arith, ints) }
+with_sign_within false n few = record { within = omega (arith, ints) }
 
 value_within : (negative : Bool) (p : Parts) (z : ℤ) → value_of negative p ≡ Ok z → IsWithin (10 ^ 9) z
 value_within negative p z is =
     let formed = guard_ok (not (is_well_formed p)) _ _ z is in
     let whole = guard_ok (not (is_whole p)) _ _ z formed.1 in
     let few = guard_ok (nat_lt (10 ^ 9) (decimal p.whole)) _ _ z whole.1 in
-    subst (IsWithin (10 ^ 9)) (ok_is {E = OffKind} (signed negative (decimal p.whole)) z few.1) (signed_within negative (decimal p.whole) (omega (arith, ltb-false (10 ^ 9) (decimal p.whole) few.0)))
+    subst (IsWithin (10 ^ 9)) (ok_is {E = OffKind} (with_sign negative (decimal p.whole)) z few.1) (with_sign_within negative (decimal p.whole) (omega (arith, ltb-false (10 ^ 9) (decimal p.whole) few.0)))
 
 placed_ok : {X : Type 0} (place : ℕ) (r : Result X OffKind) (x : X) → at_place place r ≡ Ok x → r ≡ Ok x
 placed_ok place (Ok y) x is = ap (λ z. Ok z) (ok_is {E = Refusal} y x is)

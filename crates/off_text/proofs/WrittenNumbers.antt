@@ -11,7 +11,7 @@ use Rattle.grid.specs.Limits.{most_input}
 use Rattle.int_algebra.specs.Within.{IsWithin}
 use Rattle.off_text.specs.declared.issue.OffKind.TheVariants.{OtherKeyword, BadCount, TooMany, BadNumber, BadIndex, ShortFace}
 use Rattle.off_text.specs.Words.{Word}
-use Rattle.off_text.specs.Numbers.{Parts, is_number, is_empty, decimal, without_sign, is_negative, parts_of, with_fraction, value_of, signed, whole_coordinate}
+use Rattle.off_text.specs.Numbers.{Parts, is_number, is_empty, decimal, without_sign, is_negative, parts_of, with_fraction, value_of, with_sign, whole_coordinate}
 use Rattle.off_text.specs.Rounding.{coordinate_of}
 use Rattle.off_text.specs.Grammar.{refused, count, first_count, edge_count, corner_count, index, at_place, coordinate}
 use Rattle.off_text.proofs.Coordinates.{coordinate_by, value_is}
@@ -23,9 +23,9 @@ use Rattle.off_text.proofs.WrittenWords.{IsToken, digits_inner, digit_not, digit
 pub number_token : (n : ℕ) → n < 2 ^ 64 → IsToken (written n)
 number_token n fits = record { some = written_some n fits; inner = digits_inner (written n) (written_digits n fits) }
 
-pub signed_token : (z : ℤ) → IsWithin (10 ^ 9) z → IsToken (signed_decimal z)
-signed_token (pos n) few = number_token n (omega (arith, few.within))
-signed_token (negsuc n) few = record { some = omega arith; inner = digits_inner (written (suc n)) (written_digits (suc n) (omega (arith, few.within))) }
+pub with_sign_token : (z : ℤ) → IsWithin (10 ^ 9) z → IsToken (signed_decimal z)
+with_sign_token (pos n) few = number_token n (omega (arith, few.within))
+with_sign_token (negsuc n) few = record { some = omega arith; inner = digits_inner (written (suc n)) (written_digits (suc n) (omega (arith, few.within))) }
 
 -- ---- counts and indexes
 not_empty : (ds : List ℕ) → 0 < length ds → is_empty ds ≡ false
@@ -81,7 +81,7 @@ parts_alone ds h =
     sym (ap (λ (n : ℕ). with_fraction (take n ds) (drop n ds)) (all_front ds h)
     ∙ ap₂ with_fraction (take-length ds) (none_left ds))
 
-alone_said : (negative : Bool) (n : ℕ) → n ≤ 10 ^ 9 → value_of negative (digits_alone (written n)) ≡ Ok (signed negative n)
+alone_said : (negative : Bool) (n : ℕ) → n ≤ 10 ^ 9 → value_of negative (digits_alone (written n)) ≡ Ok (with_sign negative n)
 unfolding digits_alone
 alone_said negative n few =
     let value = written_value n (omega (arith, few)) in

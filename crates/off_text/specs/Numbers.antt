@@ -15,12 +15,12 @@ abbrev pub is_number : List ℕ → Bool
 is_number word = not (is_empty word) && list_all is_ascii_digit word
 
 -- the number that n and the digits behind it spell
-abbrev pub continued : ℕ → List ℕ → ℕ
-continued n digits = fold (λ n d. 10 * n + (d - 48)) n digits
+abbrev pub decimal_from : ℕ → List ℕ → ℕ
+decimal_from n digits = fold (λ n d. 10 * n + (d - 48)) n digits
 
 -- the number that digits spell
 unfoldable pub decimal : List ℕ → ℕ
-decimal digits = continued 0 digits
+decimal digits = decimal_from 0 digits
 
 -- the digits at the front
 abbrev pub digits_of : List ℕ → List ℕ
@@ -76,8 +76,8 @@ abbrev pub is_whole : Parts → Bool
 is_whole p = is_empty p.rest && list_all (λ b. b == 48) p.fraction
 
 -- a number with its sign
-abbrev pub signed : Bool → ℕ → ℤ
-signed negative n = if negative then neg_ℤ (pos n) else pos n
+abbrev pub with_sign : Bool → ℕ → ℤ
+with_sign negative n = if negative then neg_ℤ (pos n) else pos n
 
 -- the value of a coordinate by its sign and parts, or why it has none
 abbrev pub value_of : (negative : Bool) → Parts → Result ℤ OffKind
@@ -85,7 +85,7 @@ value_of negative p =
     if not (is_well_formed p) then Err BadNumber
     else if not (is_whole p) then Err NotWhole
     else if nat_lt (10 ^ 9) (decimal p.whole) then Err TooLarge
-    else Ok (signed negative (decimal p.whole))
+    else Ok (with_sign negative (decimal p.whole))
 
 -- the whole number that a word spells, or why it spells none
 unfoldable pub whole_coordinate : List ℕ → Result ℤ OffKind

@@ -2,7 +2,7 @@
 
 ghost use Rattle.std.specs.Prelude.{◌≡◌, ◌≤◌, ◌==◌, IfSome};
 ghost use Rattle.std.specs.List.{list_all};
-ghost use Rattle.off_text.specs.Numbers.{is_whole, signed, whole_coordinate};
+ghost use Rattle.off_text.specs.Numbers.{is_whole, with_sign, whole_coordinate};
 ghost use Rattle.off_text.specs.Rounding.{coordinate_of};
 ghost use Rattle.off_text.specs.PartsView.{parts_view};
 
@@ -26,8 +26,8 @@ fn is_whole(parts: &Parts) -> bool
     parts.rest.is_empty() && are_zeros(parts.fraction)
 }
 
-fn signed(negative: bool, n: u32) -> i64
-    ensures { result ≡ signed negative n }
+fn with_sign(negative: bool, n: u32) -> i64
+    ensures { result ≡ with_sign negative n }
 {
     if negative {
         -i64::from(n)
@@ -50,7 +50,7 @@ fn whole_coordinate(word: &[u8]) -> Result<i64, OffKind>
     if n > LARGEST {
         return Err(OffKind::TooLarge);
     }
-    Ok(signed(is_negative(word), n))
+    Ok(with_sign(is_negative(word), n))
 }
 
 /// The coordinate that a word spells, or why it spells none: a whole number, or where digits are

@@ -4,8 +4,8 @@ ghost use Rattle.std.specs.Prelude.{◌≡◌, ◌≤◌, ◌<◌, ◌-◌, ◌*
 ghost use Rattle.std.specs.List.{list_all};
 ghost use Rattle.std.specs.Char.{is_ascii_digit};
 ghost use Rattle.int_algebra.specs.Within.{IsWithin};
-ghost use Rattle.off_text.specs.Numbers.{continued, decimal, is_tail, signed};
-ghost use Rattle.off_text.specs.Rounding.{exponent_of, lowered, raised, rounded_coordinate, scaled, within_most};
+ghost use Rattle.off_text.specs.Numbers.{decimal_from, decimal, is_tail, with_sign};
+ghost use Rattle.off_text.specs.Rounding.{exponent_of, over_power, times_power, rounded_coordinate, scale, within_most};
 ghost use Rattle.off_text.specs.Cut.{IsShort, cut};
 ghost use Rattle.off_text.specs.PartsView.{parts_view};
 
@@ -26,10 +26,10 @@ const MOST_POWER: i64 = 9;
 const HALVED: i64 = -33;
 
 /// The number that n and the digits behind it spell.
-fn continued(n: u128, digits: &[u8]) -> u128
+fn decimal_from(n: u128, digits: &[u8]) -> u128
     requires digits { list_all is_ascii_digit digits.now ≡ true }
-    requires few { continued n digits.now < 10 ^ 32 }
-    ensures { result ≡ continued n digits.now }
+    requires few { decimal_from n digits.now < 10 ^ 32 }
+    ensures { result ≡ decimal_from n digits.now }
 {
     let mut n = n;
     for d in digits {
@@ -44,13 +44,13 @@ fn mantissa(parts: &Parts) -> u128
     ensures value { result ≡ decimal (parts.now.whole.now ++ parts.now.fraction.now) }
     ensures few { result < 10 ^ 32 }
 {
-    let whole = continued(0, parts.whole);
-    continued(whole, parts.fraction)
+    let whole = decimal_from(0, parts.whole);
+    decimal_from(whole, parts.fraction)
 }
 
-fn signed(negative: bool, n: u128) -> i128
+fn with_sign(negative: bool, n: u128) -> i128
     requires { n < 10 ^ 32 }
-    ensures value { result ≡ signed negative n }
+    ensures value { result ≡ with_sign negative n }
     ensures few { IsWithin (10 ^ 32 - 1) result }
 {
     if negative { -(n as i128) } else { n as i128 }
@@ -78,9 +78,9 @@ fn within_most(z: i128) -> Result<i64, OffKind>
     Ok(z as i64)
 }
 
-fn raised(m: i128, power: u32) -> Result<i64, OffKind>
+fn times_power(m: i128, power: u32) -> Result<i64, OffKind>
     requires power { power ≤ 9 }
-    ensures { result ≡ within_most (raised m power) }
+    ensures { result ≡ within_most (times_power m power) }
 {
     if m.unsigned_abs() > LARGEST {
         return Err(OffKind::TooLarge);
@@ -88,19 +88,19 @@ fn raised(m: i128, power: u32) -> Result<i64, OffKind>
     within_most(m * 10_i128.pow(power))
 }
 
-fn lowered(m: i128, power: u32) -> Result<i64, OffKind>
+fn over_power(m: i128, power: u32) -> Result<i64, OffKind>
     requires m { IsWithin (10 ^ 32 - 1) m }
     requires power { power ≤ 32 }
-    ensures { result ≡ within_most (lowered m power) }
+    ensures { result ≡ within_most (over_power m power) }
 {
     let unit = 10_i128.pow(power);
     within_most((2 * m + unit).div_euclid(2 * unit))
 }
 
 /// m times ten to that power, rounded.
-fn scaled(m: i128, power: i64) -> Result<i64, OffKind>
+fn scale(m: i128, power: i64) -> Result<i64, OffKind>
     requires { IsWithin (10 ^ 32 - 1) m }
-    ensures { result ≡ within_most (scaled m power) }
+    ensures { result ≡ within_most (scale m power) }
 {
     if m == 0 {
         return Ok(0);
@@ -112,9 +112,9 @@ fn scaled(m: i128, power: i64) -> Result<i64, OffKind>
         return Err(OffKind::TooLarge);
     }
     if power < 0 {
-        lowered(m, (-power) as u32)
+        over_power(m, (-power) as u32)
     } else {
-        raised(m, power as u32)
+        times_power(m, power as u32)
     }
 }
 
@@ -131,7 +131,7 @@ pub fn rounded_coordinate(word: &[u8], digits: u32) -> Result<i64, OffKind>
     if !is_well_formed(&parts) {
         return Err(OffKind::BadNumber);
     }
-    let m = signed(is_negative(word), mantissa(&parts));
+    let m = with_sign(is_negative(word), mantissa(&parts));
     let power = exponent(parts.rest) - parts.fraction.len() as i64 + i64::from(digits);
-    scaled(m, power)
+    scale(m, power)
 }

@@ -76,8 +76,8 @@ with_text (Some key) text = Some (key, text)
 with_text None text = None
 
 -- an option and its value in one word, with `=` between them
-abbrev pub attached : Command → List ℕ → Option (Key × List ℕ)
-attached command word =
+abbrev pub option_with_value : Command → List ℕ → Option (Key × List ℕ)
+option_with_value command word =
     if list_any is_equals word then with_text (option_of command (before_first is_equals word)) (after_first is_equals word) else None
 
 -- ---- one word
@@ -93,7 +93,7 @@ read_option None with_value word before = read_other with_value word before
 abbrev pub read_any : Command → List ℕ → Read → Result Read WordFault
 read_any command word before =
     if bytes_eq word (codes "--") then Ok (with_next nexts.Positional before)
-    else read_option (option_of command word) (attached command word) word before
+    else read_option (option_of command word) (option_with_value command word) word before
 
 -- the value of an option that stands in a word of its own
 abbrev pub read_value : Key → List ℕ → Read → Result Read WordFault

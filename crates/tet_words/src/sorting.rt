@@ -2,7 +2,7 @@
 
 ghost use Rattle.std.specs.Prelude.{◌≡◌, map, Ok};
 ghost use Rattle.std.specs.Option.{option_map};
-ghost use Rattle.tet_words.specs.Sorting.{attached, is_dashed, is_given, is_refused, nothing, read_any, read_value, set_value, sorted, step, take_value, take_word};
+ghost use Rattle.tet_words.specs.Sorting.{option_with_value, is_dashed, is_given, is_refused, nothing, read_any, read_value, set_value, sorted, step, take_value, take_word};
 ghost use Rattle.tet_words.specs.Views.{sorted_view, values_view};
 ghost use Rattle.tet_words.specs.Answers.{Answers};
 
@@ -41,8 +41,8 @@ pub struct Sorted<'a> {
 }
 
 // The option with its value in one word.
-fn attached(command: Command, word: &str) -> Option<(Key, &str)>
-    ensures { option_map (λ r. (r.0, r.1.now)) result ≡ attached command word.now }
+fn option_with_value(command: Command, word: &str) -> Option<(Key, &str)>
+    ensures { option_map (λ r. (r.0, r.1.now)) result ≡ option_with_value command word.now }
 {
     let Some((name, text)) = word.split_once('=') else {
         return None;
@@ -119,7 +119,7 @@ impl<'a> Sorted<'a> {
             self.next = Next::Value(key);
             return Ok(());
         }
-        if let Some((key, text)) = attached(command, word) {
+        if let Some((key, text)) = option_with_value(command, word) {
             return self.take_value(key, text);
         }
         if is_refused(word) {

@@ -1,6 +1,6 @@
 use Rattle.std.proofs.Common.{ap, sym, ◌∙◌, SFits, w64, to_z-of_z, Ok, Result, rules, ℤ, Bool}
 use Rattle.off_text.specs.declared.issue.OffKind.{OffKind}
-use Rattle.off_text.specs.Numbers.{parts_of, is_negative, signed}
+use Rattle.off_text.specs.Numbers.{parts_of, is_negative, with_sign}
 use Rattle.off_text.specs.PartsView.{parts_view}
 use Rattle.off_text.proofs.Coordinates.{coordinate_by, bad_number, not_whole, too_large, value_is, whole_digits}
 use Rattle.off_text.proofs.coordinate.whole_coordinate.Goals as goal
@@ -32,7 +32,7 @@ returns-then-n-gt-LARGEST c =
 pub returns : goal.returns
 returns c =
     let p = parts_view c.parts_of-parts.result in
-    let fits : SFits w64 c.signed.result = search rules in
-    ap said (to_z-of_z fits ∙ c.signed.ensures ∙ ap (λ (b : Bool). signed b c.decimal-n.result) c.is_negative.ensures)
+    let fits : SFits w64 c.with_sign.result = search rules in
+    ap said (to_z-of_z fits ∙ c.with_sign.ensures ∙ ap (λ (b : Bool). with_sign b c.decimal-n.result) c.is_negative.ensures)
     ∙ sym (coordinate_by c.args.word.now p _ (c.parts_of-parts.ensures ∙ ap parts_of c.without_sign.ensures)
     (value_is (is_negative c.args.word.now) p c.decimal-n.result (sym c.is_well_formed.ensures ∙ c.if-not-is_well_formed.false) (sym c.is_whole.ensures ∙ c.if-not-is_whole.false) c.decimal-n.ensures c.if-n-gt-LARGEST.false))

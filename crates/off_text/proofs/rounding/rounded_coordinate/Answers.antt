@@ -4,7 +4,7 @@ use Rattle.std.proofs.Math.Facts.{to_z_pos}
 use Rattle.int_algebra.specs.Within.{IsWithin}
 use Rattle.int_algebra.proofs.Bounds.{AreWithin, within_cast}
 use Rattle.int_algebra.proofs.Kept.{Code, variable, ◌⊕◌, ◌⊖◌, kept, kept-value, fits_code}
-use Rattle.off_text.specs.Numbers.{Parts, parts_of, signed, without_sign}
+use Rattle.off_text.specs.Numbers.{Parts, parts_of, with_sign, without_sign}
 use Rattle.off_text.specs.Rounding.{exponent_of}
 use Rattle.off_text.specs.Cut.{cut}
 use Rattle.off_text.specs.PartsView.{parts_view}
@@ -50,10 +50,10 @@ returns c =
     let is = c.parts_of-parts.ensures ∙ ap parts_of c.without_sign.ensures in
     let few = few_behind c.args.word.now (parts_view c.parts_of-parts.result) is c.if-word-gt-MOST_BYTES.false in
     let length_is = to_z_pos w64 {n = length c.parts_of-parts.result.fraction.now} (omega (arith, few)) in
-    let fits : SFits w128 c.signed-m.result = record { sfits = c.signed-m.type_inv } in
-    let m_is = to_z-of_z fits ∙ c.signed-m.ensures.value ∙ ap₂ signed c.is_negative.ensures c.mantissa.ensures.value in
+    let fits : SFits w128 c.with_sign-m.result = record { sfits = c.with_sign-m.type_inv } in
+    let m_is = to_z-of_z fits ∙ c.with_sign-m.ensures.value ∙ ap₂ with_sign c.is_negative.ensures c.mantissa.ensures.value in
     let x_is =
     kept-value bounds (values c.exponent.result (length c.parts_of-parts.result.fraction.now) c.from.result) (all_in c.exponent.result (exponent_of c.parts_of-parts.result.rest.now) c.from.result (length c.parts_of-parts.result.fraction.now) c.args.digits c.exponent.ensures few c.from.ensures c.requires) (kept w64 total) tt
     ∙ (λ i. (c.exponent.ensures i -ℤ length_is i) +ℤ c.from.ensures i) in
-    c.scaled.ensures
+    c.scale.ensures
     ∙ rounded_is c.args.digits c.args.word.now (parts_view c.parts_of-parts.result) _ _ is c.if-word-gt-MOST_BYTES.false (sym c.is_well_formed.ensures ∙ c.if-not-is_well_formed.false) c.requires m_is x_is

@@ -6,7 +6,7 @@ use Rattle.int_algebra.proofs.Bounds.{AreWithin, fits_within, wider-IsWithin}
 use Rattle.int_algebra.proofs.Kept.{Code, constant, variable, ◌⊕◌, ◌⊗◌, kept, code_value, is_safe, kept-value, fits_code}
 use Rattle.off_text.specs.Rounding.{within_most}
 use Rattle.off_text.proofs.Rounded.{ten_power, ten_least}
-use Rattle.off_text.proofs.rounding.lowered.Goals as goal
+use Rattle.off_text.proofs.rounding.over_power.Goals as goal
 
 abbrev dividend : Code
 dividend = kept w128 (constant (pos 2) ⊗ kept w128 (variable 0)) ⊕ kept w128 (variable 1)

@@ -2,14 +2,14 @@ use Rattle.std.proofs.Common.{◌≡◌, ℤ, pos, negsuc, ◌-ℤ◌, unsigned_
 use mir.Syntax.{w128}
 use Rattle.std.specs.Int.Signed.{le_z, lt_z}
 use Rattle.int_algebra.proofs.Kept.{Code, constant, variable, ◌⊖◌, kept, kept-value}
-use Rattle.off_text.specs.Rounding.{within_most, scaled, raised, lowered}
-use Rattle.off_text.proofs.Rounded.{zero_scaled, far_down, far_up, is_low, is_high, below_zero, scaled_down, scaled_up}
-use Rattle.off_text.proofs.rounding.scaled.Goals as goal
+use Rattle.off_text.specs.Rounding.{within_most, scale, times_power, over_power}
+use Rattle.off_text.proofs.Rounded.{zero_scale, far_down, far_up, is_low, is_high, below_zero, scale_down, scale_up}
+use Rattle.off_text.proofs.rounding.scale.Goals as goal
 
 pub returns-then-m-eq0 : goal.returns-then-m-eq0
 returns-then-m-eq0 c =
     let none : c.args.m ≡ pos 0 = sym (to_z-of_z c.ranges.m) ∙ ap (to_z w128) c.if-m-eq0.true in
-    sym (ap within_most (ap (λ (k : ℤ). scaled k c.args.power) none ∙ zero_scaled c.args.power))
+    sym (ap within_most (ap (λ (k : ℤ). scale k c.args.power) none ∙ zero_scale c.args.power))
 
 pub returns-then-power-le-HALVED : goal.returns-then-power-le-HALVED
 returns-then-power-le-HALVED c =
@@ -29,14 +29,14 @@ returns-then-power-lt0 c =
     let same = to_z-of_z c.ranges.power in
     let test = sym (ap (λ (x : ℤ). lt_z x (pos 0)) same) ∙ c.if-power-lt0.true in
     let few = below_zero c.args.power (sym (ap (λ (x : ℤ). le_z x (negsuc 32)) same) ∙ c.if-power-le-HALVED.false) test in
-    c.lowered.ensures
-    ∙ ap (λ (m : ℤ). within_most (lowered m (unsigned_abs (to_z w64 (of_z w64 (pos 0 -ℤ to_z w64 (of_z w64 c.args.power))))))) (to_z-of_z c.ranges.m)
-    ∙ ap within_most (scaled_down c.args.m c.args.power _ test (kept-value (32 ∷ []) (c.args.power ∷ []) (few, tt) negated tt))
+    c.over_power.ensures
+    ∙ ap (λ (m : ℤ). within_most (over_power m (unsigned_abs (to_z w64 (of_z w64 (pos 0 -ℤ to_z w64 (of_z w64 c.args.power))))))) (to_z-of_z c.ranges.m)
+    ∙ ap within_most (scale_down c.args.m c.args.power _ test (kept-value (32 ∷ []) (c.args.power ∷ []) (few, tt) negated tt))
 
 pub returns-else-power-lt0 : goal.returns-else-power-lt0
 returns-else-power-lt0 c =
     let same = to_z-of_z c.ranges.power in
     let test = sym (ap (λ (x : ℤ). lt_z x (pos 0)) same) ∙ c.if-power-lt0.false in
-    c.raised.ensures
-    ∙ ap₂ (λ (m x : ℤ). within_most (raised m (unsigned_abs x))) (to_z-of_z c.ranges.m) same
-    ∙ ap within_most (scaled_up c.args.m c.args.power test)
+    c.times_power.ensures
+    ∙ ap₂ (λ (m x : ℤ). within_most (times_power m (unsigned_abs x))) (to_z-of_z c.ranges.m) same
+    ∙ ap within_most (scale_up c.args.m c.args.power test)

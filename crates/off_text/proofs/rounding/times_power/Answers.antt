@@ -4,8 +4,8 @@ use Rattle.int_algebra.specs.Within.{IsWithin}
 use Rattle.int_algebra.proofs.Bounds.{AreWithin}
 use Rattle.int_algebra.proofs.Kept.{Code, variable, ◌⊗◌, kept, kept-value}
 use Rattle.off_text.specs.Rounding.{within_most}
-use Rattle.off_text.proofs.Rounded.{raised_too_large, ten_power}
-use Rattle.off_text.proofs.rounding.raised.Goals as goal
+use Rattle.off_text.proofs.Rounded.{times_power_too_large, ten_power}
+use Rattle.off_text.proofs.rounding.times_power.Goals as goal
 
 abbrev product : Code
 product = kept w128 (kept w128 (variable 0) ⊗ kept w128 (variable 1))
@@ -20,7 +20,7 @@ all_in c =
 pub returns-then-unsigned_abs-gt-LARGEST : goal.returns-then-unsigned_abs-gt-LARGEST
 returns-then-unsigned_abs-gt-LARGEST c =
     let size = c.unsigned_abs.ensures.value ∙ ap unsigned_abs (to_z-of_z c.ranges.m) in
-    sym (raised_too_large c.args.m c.args.power (subst (λ (n : ℕ). 10 ^ 9 < n) size c.if-unsigned_abs-gt-LARGEST.true))
+    sym (times_power_too_large c.args.m c.args.power (subst (λ (n : ℕ). 10 ^ 9 < n) size c.if-unsigned_abs-gt-LARGEST.true))
 
 pub returns : goal.returns
 returns c =
