@@ -1,26 +1,41 @@
 -- Values of points, and planes of the code.
-use Rattle.std.proofs.Common.{◌≡◌, ℕ, zero, suc, ◌+◌, ◌<◌, Bool, true, false, cond, if◌then◌else◌, ℤ, pos, negsuc, ◌*ℤ◌, ◌<ℤ◌, refl, sym, subst, ap, ◌∙◌, arith}
+use Rattle.std.proofs.Common.{◌≡◌, ℕ, zero, suc, ◌+◌, ◌^◌, ◌<◌, Bool, true, false, cond, nat_lt, if◌then◌else◌, ℤ, pos, negsuc, ◌*ℤ◌, ◌<ℤ◌, ◌≤ℤ◌, refl, sym, subst, ap, ◌∙◌, arith}
 use Rattle.std.specs.Int.Signed.{lt_z}
 use Rattle.std.specs.Int.{int_signum}
 use lib.IntN.{nat_abs, zero-*ℤ}
+use Rattle.int_algebra.proofs.Orders.{natural-NonNegative, product-NonNegative}
 use Rattle.grid.specs.declared.shapes.Point.{Point}
 use Rattle.grid.specs.Boxes.{Axis, along_x, along_y, along_z, Side, IsOn, IsInBox}
 use Rattle.grid.specs.Vectors.{dot, difference}
 use Rattle.grid.specs.Planes.{Plane, value_of, snap_sign, crossing, rounded_mean}
-use Rattle.planes.specs.Bounded.{plane_with, sq_reach_of}
+use Rattle.planes.specs.Bounded.{plane_with, reach_of, sq_reach_of}
 use Rattle.planes.specs.Crossings.{HaveOppositeSigns, mean_of}
 use Rattle.vectors.specs.declared.vector.Vector.{Vector}
 use Rattle.vectors.specs.Bounded.{vector_of}
+use Rattle.vectors.proofs.VectorLemmas.{length-NonNegative}
+use Rattle.planes.proofs.Roots.{squares-beyond}
 use Rattle.planes.proofs.MeanLemmas.{rounded_mean-IsUpTo, rounded_mean-same}
 
 pub dot-difference : (m : Plane) (normal d : Vector) (origin p : Point) (snap : ℕ) → plane_with normal origin snap ≡ m → vector_of d ≡ difference p origin → dot (vector_of normal) (vector_of d) ≡ value_of m p
 unfolding value_of
 dot-difference m normal d origin p snap e h = ap (dot (vector_of normal)) h ∙ ap (λ k. value_of k p) e
 
+-- ---- signs
+pub abs_is : (z : ℤ) → pos 0 ≤ℤ z → pos (nat_abs z) ≡ z
+abs_is (pos n) h = refl
+abs_is (negsuc n) h = absurd h.le
+
+-- the squared reach is not below 0
+sq_reach-pos : (m : Plane) → pos (nat_abs (sq_reach_of m)) ≡ sq_reach_of m
+sq_reach-pos m = abs_is _ (product-NonNegative _ _ (natural-NonNegative (m.snap ^ 2)) (length-NonNegative m.normal))
+
 -- what `sign_beyond` answers at the value of a point
-pub sign-snap_sign : (m : Plane) (p : Point) (v r : ℤ) → v ≡ value_of m p → r ≡ sq_reach_of m → (if lt_z r (v *ℤ v) then int_signum v else pos 0) ≡ snap_sign m p
+pub sign-snap_sign : (m : Plane) (p : Point) (v : ℤ) (r : ℕ) → v ≡ value_of m p → r ≡ reach_of m → (if nat_lt r (nat_abs v) then int_signum v else pos 0) ≡ snap_sign m p
 unfolding snap_sign
-sign-snap_sign m p v r e d = λ i. if lt_z (d i) (e i *ℤ e i) then int_signum (e i) else pos 0
+sign-snap_sign m p v r e h =
+    (λ i. if nat_lt (h i) (nat_abs (e i)) then int_signum (e i) else pos 0)
+    ∙ (λ i. if sym (squares-beyond (nat_abs (sq_reach_of m)) (value_of m p)) i then int_signum (value_of m p) else pos 0)
+    ∙ (λ i. if lt_z (sq_reach-pos m i) (value_of m p *ℤ value_of m p) then int_signum (value_of m p) else pos 0)
 
 -- ---- values of opposite signs
 pub some_value : (a b : ℤ) → (a *ℤ b) <ℤ pos 0 → 0 < nat_abs a + nat_abs b

@@ -1,3 +1,4 @@
 pub mod Bounded
 pub mod Crossings
+pub mod Roots
 pub mod Sides

@@ -6,9 +6,8 @@ ghost use Rattle.grid.specs.Planes.{value_of};
 ghost use Rattle.grid.specs.Vectors.{components};
 ghost use Rattle.int_algebra.specs.Within.{IsWithin};
 ghost use Rattle.planes.specs.Crossings.{HaveOppositeSigns};
-ghost use Rattle.std.specs.Int.Signed.{lt_z};
 ghost use Rattle.std.specs.Int.{int_signum};
-ghost use Rattle.std.specs.Prelude.{if◌then◌else◌, pos, ℕ, ◌*ℤ◌, ◌^◌, ◌≡◌, ◌≤◌};
+ghost use Rattle.std.specs.Prelude.{if◌then◌else◌, nat_abs, nat_lt, pos, ℕ, ◌^◌, ◌≡◌, ◌≤◌};
 ghost use Rattle.vectors.specs.Bounded.{IsVectorWithin, vector_of};
 
 use crate::mean::mean_point;
@@ -23,29 +22,30 @@ pub struct Plane {
     normal: Vector,
     origin: Point,
     snap: u32,
-    // The square of the snapping distance, times that of the normal's length.
-    sq_reach: i128,
+    // The largest value of a point that is snapped: the snapping distance times the normal's length,
+    // rounded down.
+    reach: u64,
 }
 
 impl Model for Plane {
     ghost use Rattle.grid.specs.Planes as planes;
     ghost use Rattle.std.proofs.Common.{sym};
-    ghost use Rattle.planes.specs.Bounded.{IsKept, plane_with, sq_reach_of};
+    ghost use Rattle.planes.specs.Bounded.{IsKept, plane_with, reach_of};
 
     ghost Value = { planes.Plane };
 
     ghost view = { λ p. plane_with p.normal p.origin p.snap };
 
-    ghost invariant = { λ p. IsKept (plane_with p.normal p.origin p.snap) p.sq_reach };
+    ghost invariant = { λ p. IsKept (plane_with p.normal p.origin p.snap) p.reach };
 
     ghost inverse = { λ m. record {
       normal = record { x = m.normal.x; y = m.normal.y; z = m.normal.z };
       origin = m.origin;
       snap = m.snap;
-      sq_reach = sq_reach_of m;
+      reach = reach_of m;
     } };
 
-    ghost inverse_ok = { λ a h. λ i. record a { sq_reach = sym h.reach_is i } };
+    ghost inverse_ok = { λ a h. λ i. record a { reach = sym h.reach_is i } };
 }
 
 impl Plane {
@@ -62,7 +62,7 @@ impl Plane {
             normal,
             origin,
             snap,
-            sq_reach,
+            reach: sq_reach.unsigned_abs().isqrt() as u64,
         }
     }
 
@@ -107,7 +107,7 @@ impl Plane {
         requires { IsInBox largest_side p }
         ensures sign { result ≡ Planes.snap_sign self.now p }
     {
-        sign_beyond(self.value(p), self.sq_reach)
+        sign_beyond(self.value(p), self.reach)
     }
 
     /// The point at which the segment from u to v crosses the plane, each coordinate rounded to the
@@ -128,13 +128,11 @@ impl Plane {
     }
 }
 
-// The sign of the value where its square is above a square, else 0.
-fn sign_beyond(value: i64, sq_reach: i128) -> i8
-    requires { IsWithin (2 ^ 57) value }
-    ensures { result ≡ (if lt_z sq_reach (value *ℤ value) then int_signum value else pos 0) }
+// The sign of the value where it is farther from 0 than the reach, else 0.
+fn sign_beyond(value: i64, reach: u64) -> i8
+    ensures { result ≡ (if nat_lt reach (nat_abs value) then int_signum value else pos 0) }
 {
-    let square = value as i128 * value as i128;
-    if sq_reach < square {
+    if reach < value.unsigned_abs() {
         value.signum() as i8
     } else {
         0
