@@ -1,11 +1,13 @@
 mod Steps
 mod Sorting
+mod Packing
 mod Ends
 mod Meeting
 mod Sides
 mod CornerSigns
 mod WantedEdges
 mod EdgePairs
+mod FewWanted
 mod SectionFaces
 mod Points
 mod PhaseCuts

@@ -2,16 +2,18 @@
 use Rattle.std.proofs.Common.{◌≡◌, ℕ, Bool, true, false, ◌||◌, map, refl, ap, sym, ◌∙◌, List, [], ◌∷◌}
 use Rattle.std.specs.declared.cmp.Ordering.{Ordering}
 use Rattle.std.specs.declared.cmp.Ordering.TheVariants.{Less}
-use Rattle.std.specs.Cmp.{IsTotalOrder}
+use Rattle.std.specs.Cmp.{IsStrictWeakOrder, IsTotalOrder}
 use Rattle.std.specs.Cmp.Lexicographic.{slice_cmp}
+use Rattle.std.specs.Borrow.{Bor}
+use Rattle.std.specs.Fn.{Called, ComparesAs, Mut}
 use Rattle.std.specs.List.{list_any, AllByRecursion, dedup, dedup_from}
-use Rattle.std.specs.List.Sorted.{IsPermutation, IsSorted, IsStrictlySortedBy}
+use Rattle.std.specs.List.Sorted.{IsPermutation, IsSorted, IsSortedBy, IsStrictlySortedBy}
 use Rattle.std.specs.Ordering.{nat_cmp, is_lt}
 use Rattle.std.proofs.lemmas.Bool.{cases_Bool}
 use Rattle.std.proofs.lemmas.Bool.Decides.{nat_tests}
 use Rattle.std.proofs.lemmas.Cmp.{same_from_slice_cmp, nat_list_cmp_total}
 use Rattle.std.proofs.lemmas.List.Kept.{IsStrictlySortedBy-dedup}
-use Rattle.std.proofs.lemmas.List.Sorted.{list_any-IsPermutation}
+use Rattle.std.proofs.lemmas.List.Sorted.{answers_always, list_any-IsPermutation, ranks_by}
 use Rattle.std.proofs.lemmas.Map.Text.{is_eq-slice_cmp}
 use Rattle.std.proofs.Common.{arith, inl, inr}
 use Rattle.grid.specs.Meshes.{is_below, Ordered}
@@ -67,6 +69,13 @@ module _ {X : Type 0} (f : X → List ℕ) where
   any-map : (t : List ℕ) (xs : List X) → is_among t (map f xs) ≡ list_any (λ x. same_triple t (f x)) xs
   any-map t [] = refl
   any-map t (x ∷ xs) = ap (λ (b : Bool). same_triple t (f x) || b) (any-map t xs)
+
+  -- from the clause `sorted` of `sort_unstable_by`, where each call answers by the order of the lists
+  pub sorted-by : {F : Type 0} {g : Mut F (Bor X × (Bor X × Unit {0})) Ordering} {by : F} (xs : List X)
+      → ((lt : X → X → Bool) → IsStrictWeakOrder lt → ComparesAs g lt by → IsSortedBy lt xs)
+      → ((k : F) (a : Bor X × (Bor X × Unit {0})) (r : Ordering) (l : F) → Called g k a r l → is_lt r ≡ is_below (f a.0.now) (f a.1.0.now)) → IsSorted cmp xs
+  sorted-by xs sorted h = sorted (λ x y. is_lt (cmp x y)) (ranks_by nat_list_cmp_total f)
+      (answers_always _ _ _ (λ k a r l called. h k a r l called ∙ sym (is_below-is_lt (f a.0.now) (f a.1.0.now) (cmp a.0.now a.1.0.now) refl)))
 
   pub sorted-once : (xs ys : List X) → IsPermutation xs ys → IsSorted cmp ys → map f (dedup same ys) ≡ in_order_once (map f xs)
   sorted-once xs ys moved sorted =

@@ -17,6 +17,7 @@ use Rattle.grid.specs.Planes.{Plane, normal_of}
 use Rattle.grid.specs.Vectors.{Vector, dot}
 use Rattle.grid.specs.Limits.{largest_side}
 use Rattle.mesh_types.specs.CuttingRule.{section_plane}
+use Rattle.planes.proofs.ForCallers.{abs_is}
 use Rattle.cutting_rule.specs.Bounds.{AreBounds}
 use Rattle.cutting_rule.specs.Spread.{IsSpread, IsLengthAtMost}
 
@@ -39,10 +40,6 @@ length-squares m =
     subst (λ (q : ℤ). q ≤ℤ pos ((x + y + z) * (x + y + z))) (λ i. sym (abs_square m.x) i +ℤ sym (abs_square m.y) i +ℤ sym (abs_square m.z) i) whole
 
 -- ---- a margin
-abs_is : (z : ℤ) → pos 0 ≤ℤ z → pos (nat_abs z) ≡ z
-abs_is (pos n) h = refl
-abs_is (negsuc n) h = absurd h.le
-
 pub margin-enough : (lo hi d : ℤ) (wide area : ℕ) → d ≡ hi -ℤ lo → lo ≤ℤ hi → 1 ≤ area → ((hi -ℤ lo) *ℤ pos wide) ≤ℤ ((pos (nat_abs d * wide / area + 3) -ℤ pos 2) *ℤ pos area)
 margin-enough lo hi d wide area e le some =
     let n = nat_abs d * wide in

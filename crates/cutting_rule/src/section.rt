@@ -1,19 +1,23 @@
 // The faces of a tetrahedron that are in a triangle's section.
+ghost use Rattle.cutting_rule.specs.Packing.{IsPacked};
 ghost use Rattle.cutting_rule.specs.Section.{section_in};
 ghost use Rattle.cutting_rule.specs.Touching.{signs_at};
 ghost use Rattle.grid.specs.Boxes.{IsInBox};
 ghost use Rattle.grid.specs.Limits.{largest_side};
+ghost use Rattle.grid.specs.Meshes.{is_below};
 ghost use Rattle.grid.specs.Simplices.{rising};
 ghost use Rattle.grid.specs.Views.{triples_of};
 ghost use Rattle.grid.specs.declared.shapes.Point.{Point};
 ghost use Rattle.grid.specs.declared.shapes.Tri.{Tri};
 ghost use Rattle.mesh_types.specs.Phases.{points_of};
 ghost use Rattle.mesh_types.specs.Tracking.{in_order_once};
+ghost use Rattle.std.specs.Ordering.{is_lt};
 ghost use Rattle.std.specs.Prelude.{All, List, OnOk, [], false, if◌then◌else◌, ℕ, ◌&&◌, ◌||◌, ◌++◌, ◌∷◌, ◌≡◌};
 
 use crate::signs::is_on;
 use crate::triangle::CuttingTriangle;
 use grid::{Face, Memory, Point, Tet};
+use std::cmp::Ordering;
 
 fn push_if(there: bool, face: Face, into: &mut Vec<Face>) -> Result<(), Memory>
     ensures { OnOk result (triples_of into.new.items ≡ triples_of into.old.items ++ (if there then rising face.0 ∷ [] else [])) }
@@ -72,10 +76,23 @@ pub fn push_section(
     Ok(())
 }
 
+// The three corners as one number, so that a sort compares once.
+fn packed(face: Face) -> u128
+    ensures { IsPacked 3 face.0 result }
+{
+    let Face([a, b, c]) = face;
+    let last = u64::from(b) * 0x1_0000_0000 + u64::from(c);
+    u128::from(a) * 0x1_0000_0000_0000_0000 + u128::from(last)
+}
+
 /// Sorts the faces, and keeps one of each.
 pub fn sort_faces_once(faces: &mut Vec<Face>)
     ensures { triples_of faces.new.items ≡ in_order_once (triples_of faces.old.items) }
 {
-    faces.sort_unstable();
+    faces.sort_unstable_by(
+        |a: &Face, b: &Face| -> Ordering
+            ensures { is_lt result ≡ is_below a.now.0 b.now.0 }
+        { packed(*a).cmp(&packed(*b)) },
+    );
     faces.dedup();
 }

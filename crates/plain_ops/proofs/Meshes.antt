@@ -1,7 +1,6 @@
 -- Meshes of lists, and what the phases keep of them.
-use Rattle.std.proofs.Common.{◌≡◌, ℕ, suc, ◌*◌, ◌≤◌, ◌^◌, ℤ, pos, negsuc, ◌≤ℤ◌, nat_abs, Bool, List, [], ◌∷◌, ◌++◌, map, length, get_or, All, sym, ap, ◌∙◌, subst, inl, inr, arith, length-append}
-use Rattle.std.specs.List.{flat_map, filter, AllByRecursion as Each}
-use Rattle.std.proofs.lemmas.Bool.{cases_Bool}
+use Rattle.std.proofs.Common.{◌≡◌, ℕ, ◌*◌, ◌≤◌, ◌^◌, ℤ, pos, negsuc, ◌≤ℤ◌, nat_abs, List, [], ◌∷◌, ◌++◌, map, length, get_or, All, sym, ap, ◌∙◌, subst, arith, length-append}
+use Rattle.std.specs.List.{flat_map, AllByRecursion as Each}
 use Rattle.std.proofs.lemmas.Int.{ints}
 use Rattle.std.proofs.lemmas.List.{length-map}
 use Rattle.std.proofs.lemmas.List.Elements.{All-from_recursion, recursion_from_All}
@@ -9,18 +8,16 @@ use Rattle.grid.specs.declared.shapes.Point.{Point}
 use Rattle.grid.specs.declared.shapes.Tet.{Tet}
 use Rattle.grid.specs.declared.shapes.Tri.{Tri}
 use Rattle.grid.specs.Boxes.{IsInBox, IsUpTo}
-use Rattle.grid.specs.Meshes.{Mesh, IsWellFormed, IsWithinLimits, is_below}
+use Rattle.grid.specs.Meshes.{Mesh, IsWellFormed, IsWithinLimits}
 use Rattle.grid.specs.Simplices.{IsTet}
 use Rattle.grid.specs.Views.{corners_of}
 use Rattle.grid.specs.Limits.{largest_side}
 use Rattle.mesh_types.specs.declared.cut.Cut.{Cut}
 use Rattle.mesh_types.specs.declared.lists.Lists.{Lists}
-use Rattle.mesh_types.specs.Phases.{edges, phase, points_of, wanted, wanted_in, wanted_cuts}
+use Rattle.mesh_types.specs.Phases.{phase, wanted, wanted_in, wanted_cuts}
 use Rattle.mesh_types.specs.Refines.{refine}
-use Rattle.mesh_types.specs.Tracking.{in_order_once, place}
-use Rattle.mesh_types.specs.CuttingRule.{is_wanted}
 use Rattle.mesh_types.specs.Views.{mesh_of}
-use Rattle.cutting_rule.proofs.ForCallers.{wanted_cuts-in}
+use Rattle.cutting_rule.proofs.ForCallers.{length-once, length-wanted_in, wanted_cuts-in}
 
 -- ---- tetrahedra of the code
 each-tet : (P : List ℕ → Type 0) (ts : List Tet) → Each P (corners_of ts) → Each (λ (x : Tet). P x.0) ts
@@ -34,36 +31,9 @@ tets-are m points ts e f w =
     (All-from_recursion (λ (x : Tet). IsTet (length m.points) x.0) m.tets (each-tet (IsTet (length m.points)) m.tets (recursion_from_All (IsTet (length m.points)) (corners_of m.tets) w.tets_are))))
 
 -- ---- few edges are wanted
-length-filter : (test : List ℕ → Bool) (xs : List (List ℕ)) → length (filter test xs) ≤ length xs
-length-filter test [] = omega arith
-length-filter test (x ∷ xs) = let h = length-filter test xs in elim (cases_Bool (test x)) [ inl e ↦ rw e (omega arith) | inr e ↦ rw e (omega arith) ]
-
-length-edges : (x : List ℕ) → length (edges x) ≤ 6
-length-edges [] = omega arith
-length-edges (a ∷ []) = omega arith
-length-edges (a ∷ b ∷ []) = omega arith
-length-edges (a ∷ b ∷ c ∷ []) = omega arith
-length-edges (a ∷ b ∷ c ∷ d ∷ []) = omega arith
-length-edges (a ∷ b ∷ c ∷ d ∷ e ∷ x) = omega arith
-
-length-wanted_in : (points : List Point) (t : Tri) (i : ℕ) (x : List ℕ) → length (wanted_in points t i x) ≤ 6
-unfolding wanted_in
-length-wanted_in points t i x = omega (arith, length-filter (λ e. is_wanted t i (points_of points x) (points_of points e)) (edges x), length-edges x)
-
 length-all : (points : List Point) (t : Tri) (i : ℕ) (tets : List (List ℕ)) → length (flat_map (wanted_in points t i) tets) ≤ 6 * length tets
 length-all points t i [] = omega arith
 length-all points t i (x ∷ tets) = omega (arith, length-append (wanted_in points t i x) (flat_map (wanted_in points t i) tets), length-wanted_in points t i x, length-all points t i tets)
-
-length-place : (x : List ℕ) (ys : List (List ℕ)) → length (place x ys) ≤ suc (length ys)
-length-place x [] = omega arith
-length-place x (y ∷ ys) = let h = length-place x ys in elim (cases_Bool (is_below x y)) [
-  | inl e ↦ rw e (omega arith)
-  | inr e ↦ elim (cases_Bool (is_below y x)) [ inl f ↦ rw (e, f) (omega arith) | inr f ↦ rw (e, f) (omega arith) ]
-]
-
-length-once : (xs : List (List ℕ)) → length (in_order_once xs) ≤ length xs
-length-once [] = omega arith
-length-once (x ∷ xs) = omega (arith, length-place x (in_order_once xs), length-once xs)
 
 length-wanted : (m : Mesh) (t : Tri) (i : ℕ) → length (wanted m t i) ≤ 6 * length m.tets
 unfolding wanted
