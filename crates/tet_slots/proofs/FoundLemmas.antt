@@ -1,9 +1,9 @@
 -- What a search through the bins finds, sorted and without repeats, is what a scan finds.
-use Rattle.std.proofs.Common.{Some, slice_get, eqb, ◌≡◌, ℕ, zero, suc, ◌+◌, ◌<◌, ◌≤◌, Bool, true, false, cond, ◌&&◌, ◌||◌, nat_eq, List, [], ◌∷◌, ◌++◌, length, get_or, All, refl, sym, subst, ◌∙◌, ap, inl, inr, arith}
+use Rattle.std.proofs.Common.{Some, slice_get, eqb, ◌≡◌, ℕ, zero, suc, ◌+◌, ◌<◌, ◌≤◌, Bool, true, false, cond, ◌&&◌, ◌||◌, nat_eq, List, [], ◌∷◌, ◌++◌, length, get_or, refl, sym, subst, ◌∙◌, ap, inl, inr, arith}
 use Rattle.std.specs.List.{filter, range_with_len, Contains, AllPairs, dedup}
 use Rattle.std.specs.List.Sorted.{IsStrictlyIncreasing, IsPermutation}
 use Rattle.std.proofs.lemmas.Bool.{cases_Bool, cases_lt, eqb-true, eq-eqb, false≢true, or_cases, or_left, or_right, and_parts, and_from}
-use Rattle.std.proofs.lemmas.List.Elements.{recursion_from_All, Contains-get_or}
+use Rattle.std.proofs.lemmas.List.Elements.{recursion_from_All}
 use Rattle.std.proofs.lemmas.List.FromFn.{length-range_with_len, get_or-range_with_len}
 use Rattle.std.proofs.lemmas.List.Kept.{AllPairs-from_increasing, IsStrictlyIncreasing-filter, Contains-dedup_nat, Contains-from_dedup}
 use Rattle.std.proofs.lemmas.List.Sorted.{Contains-permutation, IsPermutation-sym}
@@ -12,7 +12,8 @@ use Rattle.smallvec.specs.SmallVec.{SmallVec}
 use Rattle.indexmap.specs.IndexMap.{IndexMap, get}
 use Rattle.grid.specs.Simplices.{has, Rises}
 use Rattle.tet_slots.specs.declared.bins.Bin.{Bin}
-use Rattle.tet_slots.specs.Bins.{same_bin, numbers_in, in_bin}
+use Rattle.tet_slots.specs.declared.bins.Entry.{Entry}
+use Rattle.tet_slots.specs.Bins.{same_bin, entries_in, bin_entries, in_bin, slots_of}
 use Rattle.tet_slots.proofs.BinLemmas.{same_bin-true}
 use Rattle.grid.proofs.ForCallers.{has-append, shorter, rises_same}
 use Rattle.tet_slots.specs.Quests.{Grows, Finds}
@@ -56,9 +57,6 @@ Contains-from_has (x ∷ xs) i h = elim (or_cases (nat_eq x i) (has xs i) h) [
     more : (k n : ℕ) → k < n → suc k < suc n
     more k n h = omega arith
 
-pub All-has : (P : ℕ → Type 0) (xs : List ℕ) → ((i : ℕ) → has xs i ≡ true → P i) → All P xs
-All-has P xs h = λ k d l. h (get_or xs k d) (has-from_Contains xs (get_or xs k d) (Contains-get_or xs k d l))
-
 -- ---- what grows
 pub Grows-none : (test : ℕ → Bool) (xs : List ℕ) → Grows test xs xs
 Grows-none test xs = record { kept = λ i h. h; sound = λ i h. or_left (has xs i) (test i) h }
@@ -97,20 +95,20 @@ extend low k Q R h mono now y a b = elim (cases_lt y k) [
     equal : (y k : ℕ) → k ≤ y → y < k + 1 → k ≡ y
     equal y k l b = omega arith
 
-key-from : (b : Bin) (i : ℕ) (es : List (Bin × SmallVec ℕ)) → has (numbers_in (lookup (same_bin b) es)) i ≡ true → (k : ℕ) × (k < length (keys_of es)) × (get_or (keys_of es) k b ≡ b)
+key-from : (b : Bin) (i : ℕ) (es : List (Bin × SmallVec Entry)) → has (slots_of (entries_in (lookup (same_bin b) es))) i ≡ true → (k : ℕ) × (k < length (keys_of es)) × (get_or (keys_of es) k b ≡ b)
 key-from b i [] h = absurd (false≢true h)
 key-from b i (e ∷ es) h = by (same_bin b e.0) refl h (λ g. key-from b i es g)
   where
     next : (n m : ℕ) → n < m → suc n < suc m
     next n m h = omega arith
 
-    by : (t : Bool) → same_bin b e.0 ≡ t → has (numbers_in (lookup (same_bin b) (e ∷ es))) i ≡ true → (has (numbers_in (lookup (same_bin b) es)) i ≡ true → (k : ℕ) × (k < length (keys_of es)) × (get_or (keys_of es) k b ≡ b)) → (k : ℕ) × (k < length (keys_of (e ∷ es))) × (get_or (keys_of (e ∷ es)) k b ≡ b)
+    by : (t : Bool) → same_bin b e.0 ≡ t → has (slots_of (entries_in (lookup (same_bin b) (e ∷ es)))) i ≡ true → (has (slots_of (entries_in (lookup (same_bin b) es))) i ≡ true → (k : ℕ) × (k < length (keys_of es)) × (get_or (keys_of es) k b ≡ b)) → (k : ℕ) × (k < length (keys_of (e ∷ es))) × (get_or (keys_of (e ∷ es)) k b ≡ b)
     by true q h g = (0, omega arith, sym (same_bin-true b e.0 q))
-    by false q h g = let r = g (sym (ap (λ (t : Bool). has (numbers_in (cond t (Some e.1) (lookup (same_bin b) es))) i) q) ∙ h) in (suc r.0, next r.0 (length (keys_of es)) r.1, r.2)
+    by false q h g = let r = g (sym (ap (λ (t : Bool). has (slots_of (entries_in (cond t (Some e.1) (lookup (same_bin b) es)))) i) q) ∙ h) in (suc r.0, next r.0 (length (keys_of es)) r.1, r.2)
 
 module _ {S : Type 0} where
   -- what was found in the bins of all keys was found in all bins
-  pub Finds-by_keys : (test : ℕ → Bool) (bins : IndexMap Bin (SmallVec ℕ) S) (n : ℕ) (found : List ℕ) → length (keys_of bins.entries) ≤ n → ((d : Bin) (k : ℕ) → k < n → Finds test (in_bin bins (get_or (keys_of bins.entries) k d)) found) → (b : Bin) → Finds test (in_bin bins b) found
+  pub Finds-by_keys : (test : ℕ → Bool) (bins : IndexMap Bin (SmallVec Entry) S) (n : ℕ) (found : List ℕ) → length (keys_of bins.entries) ≤ n → ((d : Bin) (k : ℕ) → k < n → Finds test (in_bin bins (get_or (keys_of bins.entries) k d)) found) → (b : Bin) → Finds test (in_bin bins b) found
   Finds-by_keys test bins n found all h b i e t =
       let r = key-from b i bins.entries e in
       h b r.0 (omega (arith, all, r.1)) i (ap (λ (c : Bin). has (in_bin bins c) i) r.2 ∙ e) t
@@ -128,8 +126,8 @@ key-from_get (e ∷ es) (suc k) b v d h = key-from_get es k b v d h
 
 module _ {S : Type 0} where
   -- the list at an index is that of the bin whose key is there
-  pub list-at_key : (bins : IndexMap Bin (SmallVec ℕ) S) (k : ℕ) (b : Bin) (v : SmallVec ℕ) (d : Bin) → slice_get bins.entries k ≡ Some (b, v) → get same_bin bins b ≡ Some v → in_bin bins (get_or (keys_of bins.entries) k d) ≡ v.items
-  list-at_key bins k b v d entry value = ap (in_bin bins) (key-from_get bins.entries k b v d entry) ∙ ap numbers_in value
+  pub list-at_key : (bins : IndexMap Bin (SmallVec Entry) S) (k : ℕ) (b : Bin) (v : SmallVec Entry) (d : Bin) → slice_get bins.entries k ≡ Some (b, v) → get same_bin bins b ≡ Some v → bin_entries bins (get_or (keys_of bins.entries) k d) ≡ v.items
+  list-at_key bins k b v d entry value = ap (bin_entries bins) (key-from_get bins.entries k b v d entry) ∙ ap entries_in value
 
 -- ---- two rising lists with the same numbers are one
 rises-from : (xs : List ℕ) → AllPairs (λ x y. x < y) xs → Rises xs

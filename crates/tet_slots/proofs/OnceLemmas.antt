@@ -1,7 +1,6 @@
 -- Lists that have each number once.
-use Rattle.std.proofs.Common.{Some, ◌≡◌, ℕ, Bool, true, false, not, cond, ◌||◌, nat_eq, Option, List, [], ◌∷◌, ◌++◌, refl, sym, subst, ◌∙◌, ap, inl, inr}
+use Rattle.std.proofs.Common.{◌≡◌, ℕ, Bool, true, false, not, cond, ◌||◌, nat_eq, List, [], ◌∷◌, refl, sym, ◌∙◌, ap, inl, inr}
 use Rattle.std.specs.List.{filter}
-use Rattle.std.specs.Prelude.{option_to_list}
 use Rattle.std.proofs.lemmas.Bool.{and_left, cases_Bool, eq-eqb, eqb-true, false≢true, or_parts}
 use Rattle.grid.specs.Simplices.{has, AreDifferent}
 use Rattle.tet_slots.specs.PointLists.{and_last, but}
@@ -36,22 +35,3 @@ AreDifferent-put false n xs d h = d
 pub AreDifferent-taken : (c : Bool) (k : ℕ) (xs : List ℕ) → AreDifferent xs → AreDifferent (cond c (but k xs) xs)
 AreDifferent-taken true k xs d = AreDifferent-filter (λ j. not (nat_eq j k)) xs d
 AreDifferent-taken false k xs d = d
-
-but-push : (k : ℕ) (xs : List ℕ) → AreDifferent (and_last k xs) → but k (and_last k xs) ≡ xs
-but-push k [] d = ap (λ (t : Bool). cond (not t) (k ∷ []) []) (eq-eqb k k refl)
-but-push k (x ∷ xs) d =
-    let parts = or_parts (has xs x) (nat_eq k x) (sym (has-push xs k x) ∙ d.0) in
-    ap (λ (t : Bool). cond (not t) (x ∷ but k (and_last k xs)) (but k (and_last k xs))) (apart parts.1)
-    ∙ ap (λ (ys : List ℕ). x ∷ ys) (but-push k xs d.1)
-  where
-    apart : nat_eq k x ≡ false → nat_eq x k ≡ false
-    apart h = elim (cases_Bool (nat_eq x k)) [
-      | inl e ↦ absurd (false≢true (sym h ∙ eq-eqb k x (sym (eqb-true x k e))))
-      | inr e ↦ e
-    ]
-
--- what stands last was popped
-pub but-popped : (k : ℕ) (old new : List ℕ) (o : Option ℕ) → AreDifferent old → o ≡ Some k → old ≡ new ++ option_to_list o → new ≡ but k old
-but-popped k old new o d e h =
-    let is : old ≡ and_last k new = h ∙ ap (λ (p : Option ℕ). new ++ option_to_list p) e in
-    sym (ap (but k) is ∙ but-push k new (subst AreDifferent is d))

@@ -3,6 +3,7 @@
 #![tactic(auto)]
 
 mod bins;
+mod extents;
 mod levels;
 mod meeting;
 mod place;

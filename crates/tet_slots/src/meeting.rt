@@ -1,14 +1,17 @@
 // The search for the slots that meet a box, through the bins.
 ghost use Rattle.grid.specs.Simplices.{IsTet, has};
-ghost use Rattle.std.specs.Prelude.{All, OnOk, length, nat_le, slice_index_or, true, ℕ, ◌&&◌, ◌-◌, ◌<◌, ◌^◌, ◌≡◌, ◌≤◌};
+ghost use Rattle.std.specs.Prelude.{All, OnOk, [], length, nat_le, slice_index_or, true, ℕ, ◌&&◌, ◌++◌, ◌-◌, ◌<◌, ◌^◌, ◌∷◌, ◌≡◌, ◌≤◌};
 ghost use Rattle.indexmap.specs.IndexMap.{keys};
-ghost use Rattle.tet_slots.specs.Bins.{in_bin};
+ghost use Rattle.std.specs.List.{Contains, filter};
+ghost use Rattle.tet_slots.specs.Bins.{bin_entries, in_bin, slots_of};
+ghost use Rattle.tet_slots.specs.Extents.{IsEntryOf};
 ghost use Rattle.tet_slots.specs.Levels.{in_place};
 ghost use Rattle.tet_slots.specs.Places.{cell, offset};
 ghost use Rattle.tet_slots.specs.Quests.{AreAllNear, AreNear, Finds, Grows, is_inside, passes};
 ghost use Rattle.tet_slots.specs.declared.bins.Bin.{Bin};
+ghost use Rattle.tet_slots.specs.declared.bins.Entry.{Entry};
 
-use crate::bins::{Bin, Level};
+use crate::bins::{Bin, Entry, Level};
 use crate::place::{cell, offset};
 use crate::search;
 use crate::slot::Slot;
@@ -59,8 +62,7 @@ fn lies_from(low: u32, x: u32, high: u32) -> bool
 impl<'a> Quest<'a> {
     /// Adds what is found on the levels in use.
     pub(crate) fn find(&self, levels: &[Level], into: &mut Vec<u32>) -> Result<(), Memory>
-        requires corners { All (λ s. IsTet (length self.now.points.now) s.tet.0) self.now.slots.now }
-        requires near { AreAllNear self.now.points.now self.now.slots.now levels.now }
+        requires { AreAllNear self.now.points.now self.now.slots.now levels.now }
         ensures grows { OnOk result (Grows (passes self.now.points.now self.now.slots.now self.now.lo self.now.hi) into.old.items into.new.items) }
         ensures found { OnOk result ((l : ℕ) (b : Bin) → Finds (passes self.now.points.now self.now.slots.now self.now.lo self.now.hi) (in_place levels.now l b) into.new.items) }
     {
@@ -78,7 +80,7 @@ impl<'a> Quest<'a> {
         ensures found { OnOk result ((i : ℕ) → first ≤ i → i < length self.now.slots.now → passes self.now.points.now self.now.slots.now self.now.lo self.now.hi i ≡ true → has into.new.items i ≡ true) }
     {
         for i in first..self.slots.len() {
-            self.find_in_list(&[i as u32], into)?;
+            self.find_slot(i as u32, into)?;
         }
         Ok(())
     }
@@ -86,8 +88,7 @@ impl<'a> Quest<'a> {
     /// Adds what is found in the bins that may have a slot that meets the box. Where all bins are not
     /// many more it goes through these, since a bin is passed over sooner than looked up.
     fn find_in_level(&self, bins: &Level, level: usize, into: &mut Vec<u32>) -> Result<(), Memory>
-        requires corners { All (λ s. IsTet (length self.now.points.now) s.tet.0) self.now.slots.now }
-        requires near { AreNear self.now.points.now self.now.slots.now level bins.now }
+        requires { AreNear self.now.points.now self.now.slots.now level bins.now }
         ensures grows { OnOk result (Grows (passes self.now.points.now self.now.slots.now self.now.lo self.now.hi) into.old.items into.new.items) }
         ensures found { OnOk result ((b : Bin) → Finds (passes self.now.points.now self.now.slots.now self.now.lo self.now.hi) (in_bin bins.now b) into.new.items) }
     {
@@ -124,8 +125,7 @@ impl<'a> Quest<'a> {
     }
 
     fn find_in_all(&self, bins: &Level, block: Block, into: &mut Vec<u32>) -> Result<(), Memory>
-        requires corners { All (λ s. IsTet (length self.now.points.now) s.tet.0) self.now.slots.now }
-        requires there { (b : Bin) (i : ℕ) → has (in_bin bins.now b) i ≡ true → i < length self.now.slots.now }
+        requires boxed { (b : Bin) (e : Entry) → Contains (bin_entries bins.now b) e → IsEntryOf self.now.points.now self.now.slots.now e }
         requires inside { (b : Bin) (i : ℕ) → has (in_bin bins.now b) i ≡ true → passes self.now.points.now self.now.slots.now self.now.lo self.now.hi i ≡ true → is_inside block.low block.high b ≡ true }
         ensures grows { OnOk result (Grows (passes self.now.points.now self.now.slots.now self.now.lo self.now.hi) into.old.items into.new.items) }
         ensures found { OnOk result ((b : Bin) → Finds (passes self.now.points.now self.now.slots.now self.now.lo self.now.hi) (in_bin bins.now b) into.new.items) }
@@ -137,8 +137,7 @@ impl<'a> Quest<'a> {
     }
 
     fn find_in_block(&self, bins: &Level, block: Block, into: &mut Vec<u32>) -> Result<(), Memory>
-        requires corners { All (λ s. IsTet (length self.now.points.now) s.tet.0) self.now.slots.now }
-        requires there { (b : Bin) (i : ℕ) → has (in_bin bins.now b) i ≡ true → i < length self.now.slots.now }
+        requires { (b : Bin) (e : Entry) → Contains (bin_entries bins.now b) e → IsEntryOf self.now.points.now self.now.slots.now e }
         ensures grows { OnOk result (Grows (passes self.now.points.now self.now.slots.now self.now.lo self.now.hi) into.old.items into.new.items) }
         ensures found { OnOk result ((x y z : ℕ) → block.low.x ≤ x → x ≤ block.high.x → block.low.y ≤ y → y ≤ block.high.y → block.low.z ≤ z → z ≤ block.high.z → Finds (passes self.now.points.now self.now.slots.now self.now.lo self.now.hi) (in_bin bins.now (record { x = x; y = y; z = z })) into.new.items) }
     {
@@ -155,8 +154,7 @@ impl<'a> Quest<'a> {
         x: u32,
         into: &mut Vec<u32>,
     ) -> Result<(), Memory>
-        requires corners { All (λ s. IsTet (length self.now.points.now) s.tet.0) self.now.slots.now }
-        requires there { (b : Bin) (i : ℕ) → has (in_bin bins.now b) i ≡ true → i < length self.now.slots.now }
+        requires { (b : Bin) (e : Entry) → Contains (bin_entries bins.now b) e → IsEntryOf self.now.points.now self.now.slots.now e }
         ensures grows { OnOk result (Grows (passes self.now.points.now self.now.slots.now self.now.lo self.now.hi) into.old.items into.new.items) }
         ensures found { OnOk result ((y z : ℕ) → block.low.y ≤ y → y ≤ block.high.y → block.low.z ≤ z → z ≤ block.high.z → Finds (passes self.now.points.now self.now.slots.now self.now.lo self.now.hi) (in_bin bins.now (record { x = x; y = y; z = z })) into.new.items) }
     {
@@ -174,8 +172,7 @@ impl<'a> Quest<'a> {
         y: u32,
         into: &mut Vec<u32>,
     ) -> Result<(), Memory>
-        requires corners { All (λ s. IsTet (length self.now.points.now) s.tet.0) self.now.slots.now }
-        requires there { (b : Bin) (i : ℕ) → has (in_bin bins.now b) i ≡ true → i < length self.now.slots.now }
+        requires { (b : Bin) (e : Entry) → Contains (bin_entries bins.now b) e → IsEntryOf self.now.points.now self.now.slots.now e }
         ensures grows { OnOk result (Grows (passes self.now.points.now self.now.slots.now self.now.lo self.now.hi) into.old.items into.new.items) }
         ensures found { OnOk result ((z : ℕ) → block.low.z ≤ z → z ≤ block.high.z → Finds (passes self.now.points.now self.now.slots.now self.now.lo self.now.hi) (in_bin bins.now (record { x = x; y = y; z = z })) into.new.items) }
     {
@@ -192,8 +189,7 @@ impl<'a> Quest<'a> {
         k: usize,
         into: &mut Vec<u32>,
     ) -> Result<(), Memory>
-        requires corners { All (λ s. IsTet (length self.now.points.now) s.tet.0) self.now.slots.now }
-        requires there { (b : Bin) (i : ℕ) → has (in_bin bins.now b) i ≡ true → i < length self.now.slots.now }
+        requires boxed { (b : Bin) (e : Entry) → Contains (bin_entries bins.now b) e → IsEntryOf self.now.points.now self.now.slots.now e }
         requires inside { (b : Bin) (i : ℕ) → has (in_bin bins.now b) i ≡ true → passes self.now.points.now self.now.slots.now self.now.lo self.now.hi i ≡ true → is_inside block.low block.high b ≡ true }
         requires within { k < length (keys bins.now) }
         ensures grows { OnOk result (Grows (passes self.now.points.now self.now.slots.now self.now.lo self.now.hi) into.old.items into.new.items) }
@@ -210,8 +206,7 @@ impl<'a> Quest<'a> {
     }
 
     fn find_in_bin(&self, bins: &Level, bin: Bin, into: &mut Vec<u32>) -> Result<(), Memory>
-        requires corners { All (λ s. IsTet (length self.now.points.now) s.tet.0) self.now.slots.now }
-        requires there { (b : Bin) (i : ℕ) → has (in_bin bins.now b) i ≡ true → i < length self.now.slots.now }
+        requires { (b : Bin) (e : Entry) → Contains (bin_entries bins.now b) e → IsEntryOf self.now.points.now self.now.slots.now e }
         ensures grows { OnOk result (Grows (passes self.now.points.now self.now.slots.now self.now.lo self.now.hi) into.old.items into.new.items) }
         ensures found { OnOk result (Finds (passes self.now.points.now self.now.slots.now self.now.lo self.now.hi) (in_bin bins.now bin) into.new.items) }
     {
@@ -221,13 +216,46 @@ impl<'a> Quest<'a> {
         }
     }
 
-    fn find_in_list(&self, list: &[u32], into: &mut Vec<u32>) -> Result<(), Memory>
-        requires corners { All (λ s. IsTet (length self.now.points.now) s.tet.0) self.now.slots.now }
-        requires there { All (λ i. i < length self.now.slots.now) list.now }
+    fn find_in_list(&self, list: &[Entry], into: &mut Vec<u32>) -> Result<(), Memory>
+        requires { All (IsEntryOf self.now.points.now self.now.slots.now) list.now }
         ensures grows { OnOk result (Grows (passes self.now.points.now self.now.slots.now self.now.lo self.now.hi) into.old.items into.new.items) }
-        ensures found { OnOk result (Finds (passes self.now.points.now self.now.slots.now self.now.lo self.now.hi) list.now into.new.items) }
+        ensures found { OnOk result (Finds (passes self.now.points.now self.now.slots.now self.now.lo self.now.hi) (slots_of list.now) into.new.items) }
     {
-        search::find_meeting(self.points, self.slots, list, self.lo, self.hi, into)?;
+        for entry in list {
+            self.find_entry(*entry, into)?;
+        }
+        Ok(())
+    }
+
+    /// Adds the slot of an entry if it is live and the box of the entry meets the box.
+    fn find_entry(&self, entry: Entry, into: &mut Vec<u32>) -> Result<(), Memory>
+        requires { IsEntryOf self.now.points.now self.now.slots.now entry }
+        ensures { OnOk result (into.new.items ≡ into.old.items ++ filter (passes self.now.points.now self.now.slots.now self.now.lo self.now.hi) (entry.slot ∷ [])) }
+    {
+        if !entry.extents.meets(self.lo, self.hi) {
+            return Ok(());
+        }
+        if !self.slots[entry.slot as usize].live {
+            return Ok(());
+        }
+        into.push(entry.slot)?;
+        Ok(())
+    }
+
+    /// Adds a slot if it is live and its bounding box meets the box.
+    fn find_slot(&self, slot: u32, into: &mut Vec<u32>) -> Result<(), Memory>
+        requires corners { All (λ s. IsTet (length self.now.points.now) s.tet.0) self.now.slots.now }
+        requires there { slot < length self.now.slots.now }
+        ensures { OnOk result (into.new.items ≡ into.old.items ++ filter (passes self.now.points.now self.now.slots.now self.now.lo self.now.hi) (slot ∷ [])) }
+    {
+        let Slot { tet, live } = self.slots[slot as usize];
+        if !live {
+            return Ok(());
+        }
+        if !search::meets_box(self.points, tet, self.lo, self.hi) {
+            return Ok(());
+        }
+        into.push(slot)?;
         Ok(())
     }
 }

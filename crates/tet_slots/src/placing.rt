@@ -5,7 +5,8 @@ ghost use Rattle.tet_slots.specs.Kept.{AreFirstBinned, IsEntered, is_at, place_a
 ghost use Rattle.tet_slots.specs.Levels.{IsSamePlaces, IsTakenOut, in_place};
 ghost use Rattle.tet_slots.specs.declared.bins.Bin.{Bin};
 
-use crate::bins::Level;
+use crate::bins::{Entry, Level};
+use crate::extents::extents_of;
 use crate::levels;
 use crate::place::{self, Place};
 use crate::slot::Slot;
@@ -29,8 +30,13 @@ pub(crate) fn settle(
     ensures { AreFirstBinned points.now slots.now forgotten.now places.new.items levels.new.items }
 {
     for slot in places.len()..slots.len() {
-        let place = place::place_of(points, slots[slot].tet, place::least_level(places));
-        add(alloc, levels, places, place, slot as u32, forgotten[slot])?;
+        let extents = extents_of(points, slots[slot].tet);
+        let place = place::place_of(extents, place::least_level(places));
+        let entry = Entry {
+            slot: slot as u32,
+            extents,
+        };
+        add(alloc, levels, places, place, entry, forgotten[slot])?;
     }
     Ok(())
 }
@@ -42,11 +48,11 @@ fn add(
     levels: &mut Vec<Level>,
     places: &mut Vec<Place>,
     place: Place,
-    slot: u32,
+    entry: Entry,
     forgotten: bool,
 ) -> Result<(), Memory>
     ensures places_ok { OnOk result (places.new.items ≡ places.old.items ++ place ∷ []) }
-    ensures levels_ok { OnOk result (IsEntered forgotten place slot levels.old.items levels.new.items) }
+    ensures levels_ok { OnOk result (IsEntered forgotten place entry levels.old.items levels.new.items) }
     ensures places_err { OnErr result (places.new.items ≡ places.old.items) }
     ensures levels_err { OnErr result (IsSamePlaces levels.old.items levels.new.items) }
 {
@@ -54,7 +60,7 @@ fn add(
     if forgotten {
         return Ok(());
     }
-    let Ok(()) = levels::enter(alloc, levels, place, slot) else {
+    let Ok(()) = levels::enter(alloc, levels, place, entry) else {
         let _ = places.pop();
         return Err(Memory);
     };

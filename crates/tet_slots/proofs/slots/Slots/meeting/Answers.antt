@@ -2,8 +2,8 @@ use Rattle.std.proofs.Common.{◌∙◌}
 use Rattle.tet_slots.proofs.WholeLemmas.{AreAllNear-binned, AreAllNear-at, meeting-found}
 use Rattle.tet_slots.proofs.slots.Slots.meeting.Goals as goal
 
-pub find-requires-clause-near : goal.find-requires-clause-near
-find-requires-clause-near c =
+pub find-requires : goal.find-requires
+find-requires c =
     AreAllNear-at c.self.inside.points.items c.deref.result.now c.self.inside.slots.items c.deref-2.result.now c.self.inside.levels.items c.deref-3.result.now c.deref.ensures.value c.deref-2.ensures.value c.deref-3.ensures.value
     (AreAllNear-binned c.self.inside.points.items c.self.inside.slots.items c.self.inside.forgotten.items c.self.inside.places.items c.self.inside.levels.items c.self.invariant.kept.sound.one_each c.self.invariant.binned)
 
