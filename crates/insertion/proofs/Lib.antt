@@ -9,4 +9,10 @@ mod Covered
 mod Turning
 mod RolledBack
 mod FreshFaces
+mod LastingFaults
+mod FewPieces
+mod LaterCuts
+mod Room
+mod NearTets
+mod Early
 pub mod ForCallers

@@ -1,5 +1,5 @@
 -- What was there before the cuts.
-use Rattle.std.proofs.Common.{◌≡◌, ℕ, ◌<◌, pos, ◌<ℤ◌, true, false, List, [], ◌∷◌, length, take, All, refl, sym, ap, ◌∙◌, subst, inl, inr}
+use Rattle.std.proofs.Common.{◌≡◌, ℕ, ◌<◌, pos, ◌<ℤ◌, true, List, [], ◌∷◌, length, take, All, refl, sym, ap, ◌∙◌, subst, inl, inr}
 use Rattle.std.specs.List.{AllByRecursion as Each}
 use Rattle.std.proofs.lemmas.Bool.{cases_Bool, true≢false}
 use Rattle.std.proofs.lemmas.List.Elements.{recursion_from_All}
@@ -13,7 +13,7 @@ use Rattle.tet_slots.specs.declared.slot.Slot.{Slot}
 use Rattle.tet_slots.specs.Slots.{slot_at, no_slot}
 use Rattle.cutter.proofs.ForCallers.{point-kept}
 
-det-kept : (old new : List Point) (x : List ℕ) → take (length old) new ≡ old → Each (λ u. u < length old) x → det_at new x ≡ det_at old x
+pub det-kept : (old new : List Point) (x : List ℕ) → take (length old) new ≡ old → Each (λ u. u < length old) x → det_at new x ≡ det_at old x
 det-kept old new (a ∷ b ∷ c ∷ d ∷ []) e h =
     λ j. det (point-kept old new a e h.0 j) (point-kept old new b e h.1.0 j) (point-kept old new c e h.1.1.0 j) (point-kept old new d e h.1.1.1.0 j)
 det-kept old new [] e h = refl

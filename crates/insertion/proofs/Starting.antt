@@ -9,14 +9,14 @@ use Rattle.grid.specs.Determinants.{IsPositive}
 use Rattle.grid.specs.Meshes.{Mesh, IsWithinLimits, IsTriple, IsWellFormed}
 use Rattle.grid.specs.Planes.{IsDegenerate}
 use Rattle.mesh_types.specs.Insertion.{IsUncovered}
-use Rattle.mesh_types.specs.Phases.{cut_by}
+use Rattle.cutting_rule.specs.Until.{until}
 use Rattle.mesh_store.specs.Changes.{IsGrown}
 use Rattle.mesh_store.specs.Parts.{Parts, StoreView, mesh_in, live_tets}
 use Rattle.mesh_store.specs.Sound.{IsSoundStore}
 use Rattle.grid.specs.declared.shapes.Point.{Point}
 use Rattle.grid.specs.Limits.{largest_side}
 use Rattle.insertion.specs.Bare.{IsBare, IsKept, HasNewCorner}
-use Rattle.insertion.specs.Progress.{start_of, closed, IsOpenFrom, IsCutBy}
+use Rattle.insertion.specs.Progress.{start_of, closed, IsOpenFrom, IsCutUntil}
 use Rattle.cutting_rule.proofs.ForCallers.{all-has}
 
 grown-refl : (m : Parts) → IsGrown m m
@@ -31,15 +31,17 @@ start-is start side v h = ap (λ o. unwrap_or o v.parts) h.begin
 pub closed-old : (old : StoreView) → old.at_begin ≡ None → closed old.parts old.side ≡ old
 closed-old old e = λ i. record { parts = old.parts; at_begin = sym e i; side = old.side }
 
-pub cut-is : (old begun now : StoreView) (t : Tri) → begun ≡ record old { at_begin = Some old.parts } → IsSoundStore old.side old.parts → All (IsPositive old.parts.points) (live_tets old.parts.slots) → IsOpenFrom old.parts old.side now → IsSoundStore now.side now.parts → mesh_in now.parts ≡ cut_by (mesh_in begun.parts) t → IsWithinLimits (mesh_in now.parts) → ¬ IsDegenerate t → IsTriInBox largest_side t → IsCutBy t now
-cut-is old begun now t b sound positive h sound_now mesh within area tri_in =
-    let s : start_of now ≡ old.parts = start-is old.parts old.side now h in
+-- what is known of a store that some phases cut
+pub cut-from : (i : ℕ) (start : Parts) (side : ℤ) (now : StoreView) (t : Tri) → IsSoundStore side start → All (IsPositive start.points) (live_tets start.slots) → IsOpenFrom start side now → IsSoundStore now.side now.parts
+    → mesh_in now.parts ≡ until (mesh_in start) t i → IsWithinLimits (mesh_in now.parts) → ¬ IsDegenerate t → IsTriInBox largest_side t → IsCutUntil t i now
+cut-from i start side now t sound positive h sound_now mesh within area tri_in =
+    let s : start_of now ≡ start = start-is start side now h in
     record {
       open_from = record { begin = h.begin ∙ ap Some (sym s); side_is = refl; grown = subst (λ p. IsGrown p now.parts) (sym s) h.grown };
-      sound = subst (λ p. IsSoundStore now.side p) (sym s) (subst (λ z. IsSoundStore z old.parts) (sym h.side_is) sound);
+      sound = subst (λ p. IsSoundStore now.side p) (sym s) (subst (λ z. IsSoundStore z start) (sym h.side_is) sound);
       sound_now = sound_now;
       positive = subst (λ (p : Parts). All (IsPositive p.points) (live_tets p.slots)) (sym s) positive;
-      mesh = mesh ∙ ap (λ (p : Parts). cut_by (mesh_in p) t) (ap (λ (v : StoreView). v.parts) b ∙ sym s);
+      mesh = mesh ∙ ap (λ (p : Parts). until (mesh_in p) t i) (sym s);
       within = within;
       some_area = area;
       tri_in = tri_in;

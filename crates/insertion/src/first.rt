@@ -16,7 +16,8 @@ use grid::{Face, Point, Tet, Tri, det};
 use tet_slots::Slots;
 use tri_distance::near;
 
-fn is_positive(slots: &Slots, tet: Tet) -> bool
+/// Whether the tetrahedron is positive.
+pub(crate) fn is_positive(slots: &Slots, tet: Tet) -> bool
     requires in_box { All (IsInBox largest_side) slots.now.points }
     requires there { IsTet (length slots.now.points) tet.0 }
     ensures { IsTrue result ↔ IsPositive slots.now.points tet.0 }

@@ -9,3 +9,4 @@ pub use Rattle.mesh_store.proofs.Exchanged.{is_in-tracked}
 pub use Rattle.mesh_store.proofs.FaceSearches.{Contains-among, among-Contains, triples-filter, chosen-is, at-corner-is}
 pub use Rattle.mesh_store.proofs.Finding.{IsFirst, outside-is}
 pub use Rattle.mesh_store.proofs.SwapMeshes.{face-first, face-second, face-corners}
+pub use Rattle.mesh_store.proofs.MoveMeshes.{filter-same}

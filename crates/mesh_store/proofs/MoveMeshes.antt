@@ -26,7 +26,7 @@ use Rattle.mesh_store.proofs.Exchanged.{is_in-tracked}
 use Rattle.mesh_store.proofs.LiveSlots.{live-append, live-made, live-killed}
 
 -- ---- tests that agree
-filter-same : (p q : List ℕ → Bool) (xs : List (List ℕ)) → Each (λ x. p x ≡ q x) xs → filter p xs ≡ filter q xs
+pub filter-same : (p q : List ℕ → Bool) (xs : List (List ℕ)) → Each (λ x. p x ≡ q x) xs → filter p xs ≡ filter q xs
 filter-same p q [] h = refl
 filter-same p q (x ∷ xs) h = elim (cases_Bool (q x)) [
   | inl e ↦ rw (h.0 ∙ e, e) (ap (λ (ys : List (List ℕ)). x ∷ ys) (filter-same p q xs h.1))

@@ -12,7 +12,7 @@ use Rattle.insertion.proofs.Covered.{covered-cut}
 use Rattle.insertion.proofs.Fresh.{fresh}
 use Rattle.insertion.proofs.Tiling.{tiles-cut}
 use Rattle.cutting_rule.proofs.ForCallers.{code-all, section-triples}
-use Rattle.insertion.proofs.inserting.settle.Goals as goal
+use Rattle.insertion.proofs.settling.settle.Goals as goal
 
 pub track-requires-clause-triples : goal.track-requires-clause-triples
 track-requires-clause-triples c =
