@@ -20,13 +20,13 @@ use Rattle.report_text.proofs.ForCallers as report_keeping
 use Rattle.report_text.specs.Rules as report_rules
 use Rattle.soup.specs.declared.raw.Soup.{Soup}
 use Rattle.soup.specs.Placement.{side}
-use Rattle.mesher.specs.declared.meshed.Meshed.{Meshed}
+use Rattle.mesher.specs.declared.mesh.Meshed.{Meshed}
 use Rattle.cert_check.specs.Faults.{case_of}
 use Rattle.cert_check.specs.Sound.{IsSound}
 use Rattle.cert_check.specs.Written.{IsCoveringOfTriple, IsWritten}
 use Rattle.cert_check.proofs.ForCallers.{written_is_sound, sound_is_good}
-use Rattle.outputs.specs.declared.asked.Asked.{Asked}
-use Rattle.outputs.specs.Made.{file_of, report_of}
+use Rattle.outputs.specs.declared.request.Asked.{Asked}
+use Rattle.outputs.specs.MeshFiles.{file_of, report_of}
 use Rattle.acceptance.specs.Accepted.{IsRun, OffTheBoxLaw, FewTrackedLaw, AcceptedLaw}
 use Rattle.acceptance.specs.OffBox.{IsOffBox}
 use Rattle.acceptance.proofs.Allowed.{cells_allowed, side_allowed}

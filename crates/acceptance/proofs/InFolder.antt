@@ -21,12 +21,12 @@ use Rattle.inputs.specs.Readings.{Gives, most_bytes, file, ◌>>=◌}
 use Rattle.inputs.specs.Texts.{raw_of, soup_file}
 use Rattle.inputs.proofs.ForCallers.{soup_fits}
 use Rattle.checking.specs.Cases.{check_inputs}
-use Rattle.outputs.specs.declared.asked.Asked.{Asked}
-use Rattle.outputs.specs.declared.asked.Names.{Names}
-use Rattle.outputs.specs.declared.written.OutFile.{OutFile}
-use Rattle.outputs.specs.declared.written.Texts.{Texts}
-use Rattle.outputs.specs.Made.{IsMade, file_of, report_of, kept_files, files_of, texts_of}
-use Rattle.outputs.specs.Written.{AreWhole, Holds, IsOther}
+use Rattle.outputs.specs.declared.request.Asked.{Asked}
+use Rattle.outputs.specs.declared.request.Names.{Names}
+use Rattle.outputs.specs.declared.output.OutFile.{OutFile}
+use Rattle.outputs.specs.declared.output.Texts.{Texts}
+use Rattle.outputs.specs.MeshFiles.{IsMade, file_of, report_of, kept_files, files_of, texts_of}
+use Rattle.outputs.specs.Output.{AreWhole, Holds, IsOther}
 use Rattle.acceptance.specs.InFolder.{check_of, IsShort, AreShort, IsFoundGood, AreAccepted, FoundGoodLaw}
 use Rattle.acceptance.proofs.FieldTriples.{height_field-IsOfTriples}
 

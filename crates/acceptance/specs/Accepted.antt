@@ -3,7 +3,7 @@ use Rattle.std.specs.Prelude.{ℕ, ◌*◌, ◌≤◌, Bool, List, Option, unwra
 use Rattle.grid.specs.Regions.{AreRegions}
 use Rattle.mesh_types.specs.Views.{mesh_of}
 use Rattle.soup.specs.declared.raw.Soup.{Soup}
-use Rattle.mesher.specs.declared.meshed.Meshed.{Meshed}
+use Rattle.mesher.specs.declared.mesh.Meshed.{Meshed}
 use Rattle.mesher.specs.Meshed.{IsMeshed}
 use Rattle.msh_text.specs.declared.file_mesh.MshMesh.{MshMesh}
 use Rattle.msh_text.specs.Rules.{MshRules}
@@ -13,8 +13,8 @@ use Rattle.cert_check.specs.declared.fault.Finding.TheVariants as findings
 use Rattle.cert_check.specs.Faults.{case_of, IsFinding}
 use Rattle.cert_check.specs.Sound.{IsSound}
 use Rattle.inputs.specs.Placed.{IsBoxed}
-use Rattle.outputs.specs.declared.asked.Asked.{Asked}
-use Rattle.outputs.specs.Made.{IsAsked, file_of, report_of}
+use Rattle.outputs.specs.declared.request.Asked.{Asked}
+use Rattle.outputs.specs.MeshFiles.{IsAsked, file_of, report_of}
 use Rattle.acceptance.specs.OffBox.{IsOffBox}
 
 -- ---- a run

@@ -10,12 +10,12 @@ use Rattle.inputs.specs.Readings.{Gives, most_bytes}
 use Rattle.inputs.specs.Texts.{soup_file}
 use Rattle.checking.specs.declared.case.Case.{Case}
 use Rattle.checking.specs.Cases.{check_inputs, judged_of}
-use Rattle.outputs.specs.declared.asked.Asked.{Asked}
-use Rattle.outputs.specs.declared.asked.Names.{Names}
-use Rattle.outputs.specs.declared.written.OutFile.{OutFile}
-use Rattle.outputs.specs.declared.written.Texts.{Texts}
-use Rattle.outputs.specs.Made.{IsMade, file_of, report_of}
-use Rattle.outputs.specs.Written.{AreWhole}
+use Rattle.outputs.specs.declared.request.Asked.{Asked}
+use Rattle.outputs.specs.declared.request.Names.{Names}
+use Rattle.outputs.specs.declared.output.OutFile.{OutFile}
+use Rattle.outputs.specs.declared.output.Texts.{Texts}
+use Rattle.outputs.specs.MeshFiles.{IsMade, file_of, report_of}
+use Rattle.outputs.specs.Output.{AreWhole}
 use Rattle.acceptance.specs.Accepted.{IsAccepted}
 
 -- the check of a mesh and its report against an input

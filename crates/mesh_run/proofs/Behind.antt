@@ -3,9 +3,9 @@ use Rattle.std.proofs.Common.{◌≡◌, ◌⊎◌, inl, inr, ℕ, true, List, s
 use Rattle.mesh_io.specs.Faults.{Rose}
 use Rattle.mesh_io.specs.Folder.{FolderState, ReadCall, WriteRose}
 use Rattle.mesh_io.specs.Sink.{SinkState, SinkRose}
-use Rattle.outputs.specs.declared.written.OutFile.{OutFile}
-use Rattle.outputs.specs.declared.written.Texts.{Texts}
-use Rattle.outputs.specs.Written.{AreWhole, last_written, IsUncreated, IsCutShort, IsCutAt, IsFileFault, IsCutOff}
+use Rattle.outputs.specs.declared.output.OutFile.{OutFile}
+use Rattle.outputs.specs.declared.output.Texts.{Texts}
+use Rattle.outputs.specs.Output.{AreWhole, last_written, IsUncreated, IsCutShort, IsCutAt, IsFileFault, IsCutOff}
 
 pub write_rose_of : (old mid new : FolderState) → ReadCall old mid → WriteRose mid new → WriteRose old new
 write_rose_of old mid new call rose = record {

@@ -13,12 +13,12 @@ use Rattle.inputs.specs.Readings.{Gives}
 use Rattle.inputs.specs.declared.issue.InputIssue.{InputIssue}
 use Rattle.inputs.specs.Answers.{Reads, NothingWritten, IsOutOfMemory, issue_line, issue_status}
 use Rattle.inputs.proofs.ForCallers.{IsOne, soup_file-IsOne, differ, answers_issue, known_status, other_status, accepted_not}
-use Rattle.outputs.specs.declared.asked.Asked.{Asked}
-use Rattle.outputs.specs.declared.asked.Names.{Names}
-use Rattle.outputs.specs.declared.written.OutFile.{OutFile}
-use Rattle.outputs.specs.declared.written.Texts.{Texts}
-use Rattle.outputs.specs.Made.{IsAsked, IsMade}
-use Rattle.outputs.specs.Written.{Writes}
+use Rattle.outputs.specs.declared.request.Asked.{Asked}
+use Rattle.outputs.specs.declared.request.Names.{Names}
+use Rattle.outputs.specs.declared.output.OutFile.{OutFile}
+use Rattle.outputs.specs.declared.output.Texts.{Texts}
+use Rattle.outputs.specs.MeshFiles.{IsAsked, IsMade}
+use Rattle.outputs.specs.Output.{Writes}
 use Rattle.acceptance.specs.InFolder.{IsShort, AreShort, IsFoundGood}
 use Rattle.acceptance.proofs.ForCallers.{accepted, found_good, found_good_beside, field_gives, first_there}
 use Rattle.mesh_run.specs.Meshing.{IsOut, IsCutOut, Finishes, asked_of, names_of, mesh_inputs, IsDone, Meshes, demo_asked, demo_names, demo_files, demo_soup, demo_check, Demos}

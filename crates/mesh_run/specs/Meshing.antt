@@ -12,12 +12,12 @@ use Rattle.tet_words.specs.declared.job.DemoJob.{DemoJob}
 use Rattle.inputs.specs.Readings.{Inputs, Gives}
 use Rattle.inputs.specs.Answers.{AnswersInputs, IsOutOfMemory}
 use Rattle.inputs.specs.Texts.{soup_file}
-use Rattle.outputs.specs.declared.asked.Asked.{Asked}
-use Rattle.outputs.specs.declared.asked.Names.{Names}
-use Rattle.outputs.specs.declared.written.OutFile.{OutFile}
-use Rattle.outputs.specs.declared.written.Texts.{Texts}
-use Rattle.outputs.specs.Made.{IsMade}
-use Rattle.outputs.specs.Written.{AreWritten, IsCutOff}
+use Rattle.outputs.specs.declared.request.Asked.{Asked}
+use Rattle.outputs.specs.declared.request.Names.{Names}
+use Rattle.outputs.specs.declared.output.OutFile.{OutFile}
+use Rattle.outputs.specs.declared.output.Texts.{Texts}
+use Rattle.outputs.specs.MeshFiles.{IsMade}
+use Rattle.outputs.specs.Output.{AreWritten, IsCutOff}
 use Rattle.acceptance.specs.InFolder.{check_of, AreShort, IsFoundGood, AreAccepted}
 
 -- ---- the writes

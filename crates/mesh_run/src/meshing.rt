@@ -1,7 +1,7 @@
 // The commands that mesh a soup: that of a file, and a height field.
 ghost use Rattle.std.specs.Prelude.{◌∷◌, ◌++◌, map};
 ghost use Rattle.inputs.specs.Placed.{IsBoxed, IsPlacedFor};
-ghost use Rattle.outputs.specs.Made.{IsAsked};
+ghost use Rattle.outputs.specs.MeshFiles.{IsAsked};
 ghost use Rattle.tet_words.specs.Facts.{AreDifferent, IsDemoJob, IsMeshJob};
 ghost use Rattle.tet_words.specs.Words.{kept_names};
 ghost use Rattle.mesh_run.specs.Meshing.{Demos, Finishes, Meshes};

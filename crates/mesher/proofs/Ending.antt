@@ -18,7 +18,7 @@ use Rattle.mesh_store.specs.Parts.{Parts, mesh_in}
 use Rattle.mesh_store.specs.Sound.{IsSoundStore}
 use Rattle.mesh_store.proofs.ForCallers.{well_formed, within}
 use Rattle.soup.specs.declared.raw.Soup.{Soup}
-use Rattle.mesher.specs.declared.meshed.Meshed.{Meshed}
+use Rattle.mesher.specs.declared.mesh.Meshed.{Meshed}
 use Rattle.mesher.specs.Meshed.{HasItsCertificate, AreCoverings, IsMeshed, IsPart, IsSecondOrNone}
 
 -- ---- certificates

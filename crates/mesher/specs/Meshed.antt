@@ -19,7 +19,7 @@ use Rattle.msh_text.specs.FileMesh.{face_of}
 use Rattle.report_text.specs.declared.report.Covering.{Covering}
 use Rattle.report_text.specs.declared.report.Second.{Second}
 use Rattle.soup.specs.declared.raw.Soup.{Soup}
-use Rattle.mesher.specs.declared.meshed.Meshed.{Meshed}
+use Rattle.mesher.specs.declared.mesh.Meshed.{Meshed}
 
 -- ---- certificates
 -- the face of the triple has a certificate

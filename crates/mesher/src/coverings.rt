@@ -26,7 +26,7 @@ fn corners(points: &[Point], face: Face) -> Tri
 }
 
 // A tracked face by the numbers that the file gives to its corners.
-fn numbered(points: &[Point], face: Face) -> Face
+fn with_file_numbers(points: &[Point], face: Face) -> Face
     requires there { IsTriple (length points.now) face.0 }
     requires few { length points.now ≤ most_points }
     ensures { result ≡ face_of face.0 }
@@ -52,7 +52,7 @@ fn covering(
 {
     match find(alloc, env, &corners(points, face), e)? {
         Some(cert) => Ok(Covering {
-            face: numbered(points, face),
+            face: with_file_numbers(points, face),
             cert,
         }),
         None => unreachable!(),

@@ -5,11 +5,11 @@
 
 mod coverings;
 mod laws;
-mod meshed;
+mod mesh;
 mod parts;
 #[cfg(test)]
 mod tests;
 mod turns;
 
 pub use laws::one_mesh_law;
-pub use meshed::{Meshed, mesh_soup};
+pub use mesh::{Meshed, mesh_soup};

@@ -10,18 +10,18 @@ use Rattle.grid.specs.Simplices.{IsTet}
 use Rattle.grid.specs.Limits.{most_made}
 use Rattle.mesh_types.specs.Views.{mesh_of}
 use Rattle.mesh_types.specs.declared.lists.Lists.{Lists}
-use Rattle.mesher.specs.declared.meshed.Meshed.{Meshed}
+use Rattle.mesher.specs.declared.mesh.Meshed.{Meshed}
 use Rattle.soup.specs.declared.raw.Soup.{Soup}
 use Rattle.msh_text.specs.declared.file_mesh.MshMesh.{MshMesh}
 use Rattle.msh_text.specs.FileMesh.{AreInRange, msh_of}
-use Rattle.outputs.specs.declared.written.Texts.{Texts}
-use Rattle.outputs.specs.declared.asked.Asked.{Asked}
-use Rattle.outputs.specs.declared.asked.Names.{Names}
-use Rattle.outputs.specs.Made.{file_of, files_of, kept_files, report_of, texts_of, IsAsked, IsMade}
+use Rattle.outputs.specs.declared.output.Texts.{Texts}
+use Rattle.outputs.specs.declared.request.Asked.{Asked}
+use Rattle.outputs.specs.declared.request.Names.{Names}
+use Rattle.outputs.specs.MeshFiles.{file_of, files_of, kept_files, report_of, texts_of, IsAsked, IsMade}
 use Rattle.tet_words.specs.Facts.{AreDifferent}
 use Rattle.tet_words.specs.Words.{kept_names}
-use Rattle.outputs.specs.Written.{NamesDiffer}
-use Rattle.outputs.specs.declared.written.OutFile.{OutFile}
+use Rattle.outputs.specs.Output.{NamesDiffer}
+use Rattle.outputs.specs.declared.output.OutFile.{OutFile}
 use Rattle.outputs.specs.Summary.{summary_line, mesh_counts, outcome_counts, try_counts}
 
 -- the texts are those of the mesh

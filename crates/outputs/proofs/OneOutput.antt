@@ -4,15 +4,15 @@ use Rattle.std.proofs.lemmas.List.{same_lists, get_or_default}
 use Rattle.grid.specs.Meshes.{Mesh}
 use Rattle.grid.specs.Regions.{AreRegions}
 use Rattle.mesh_types.specs.Views.{mesh_of}
-use Rattle.mesher.specs.declared.meshed.Meshed.{Meshed}
+use Rattle.mesher.specs.declared.mesh.Meshed.{Meshed}
 use Rattle.mesher.specs.Meshed.{IsSameMesh}
 use Rattle.mesher.proofs.OneMesh.{one_mesh}
 use Rattle.soup.specs.declared.raw.Soup.{Soup}
 use Rattle.msh_text.specs.FileMesh.{msh_of}
-use Rattle.outputs.specs.declared.asked.Asked.{Asked}
-use Rattle.outputs.specs.declared.asked.Names.{Names}
-use Rattle.outputs.specs.declared.written.OutFile.{OutFile}
-use Rattle.outputs.specs.Made.{file_of, files_of, report_of, texts_of, OneMade}
+use Rattle.outputs.specs.declared.request.Asked.{Asked}
+use Rattle.outputs.specs.declared.request.Names.{Names}
+use Rattle.outputs.specs.declared.output.OutFile.{OutFile}
+use Rattle.outputs.specs.MeshFiles.{file_of, files_of, report_of, texts_of, OneMade}
 use Rattle.outputs.specs.Summary.{summary_line}
 
 -- each of two answers is yes where the other is

@@ -9,9 +9,9 @@ use Rattle.mesh_io.specs.Write.{WritesFile, WritesAll, HoldsFront}
 use Rattle.mesh_io.specs.declared.folder.Failed.{Failed}
 use Rattle.mesh_io.proofs.Calls.{WriteCall-trans, WriteRose-after}
 use Rattle.printing.specs.Printed.{Says, write_failed_line}
-use Rattle.outputs.specs.declared.written.OutFile.{OutFile}
-use Rattle.outputs.specs.declared.written.Texts.{Texts}
-use Rattle.outputs.specs.Written.{NamesDiffer, Holds, IsOther, AreWhole, last_written, IsCutAt, IsFileFault, WritesFiles, Writes}
+use Rattle.outputs.specs.declared.output.OutFile.{OutFile}
+use Rattle.outputs.specs.declared.output.Texts.{Texts}
+use Rattle.outputs.specs.Output.{NamesDiffer, Holds, IsOther, AreWhole, last_written, IsCutAt, IsFileFault, WritesFiles, Writes}
 
 -- ---- all of a list with one more
 all_front : {X : Type 0} (P : X → Type 0) (xs : List X) (y : X) → All P (xs ++ y ∷ []) → All P xs

@@ -1,3 +1,3 @@
 pub mod Summary
-pub mod Written
-pub mod Made
+pub mod Output
+pub mod MeshFiles

@@ -6,7 +6,7 @@ use Rattle.mesh_types.specs.declared.tries.End.{End}
 use Rattle.report_text.specs.Rules.{end_text}
 use Rattle.report_text.specs.declared.report.Second.{Second}
 use Rattle.msh_text.specs.declared.file_mesh.MshMesh.{MshMesh}
-use Rattle.mesher.specs.declared.meshed.Meshed.{Meshed}
+use Rattle.mesher.specs.declared.mesh.Meshed.{Meshed}
 
 -- the nodes and tetrahedra written, the tracked faces, and the kept tetrahedra
 abbrev pub mesh_counts : MshMesh → List ℕ

@@ -2,13 +2,13 @@
 //! up. `specs/` says what they hold, and what the writes leave.
 #![tactic(auto)]
 
-mod asked;
 mod laws;
-mod made;
+mod mesh_files;
+mod output;
+mod request;
 mod summary;
-mod written;
 
-pub use asked::{Asked, Names};
 pub use laws::one_output_law;
-pub use made::{make, out_file};
-pub use written::{OutFile, Texts, write_texts};
+pub use mesh_files::{make, out_file};
+pub use output::{OutFile, Texts, write_texts};
+pub use request::{Asked, Names};

@@ -10,4 +10,4 @@ unreachable-requires c =
 pub returns : goal.returns
 returns c =
     let found : IsCertificateOf c.args.env.now c.args.e c.corners.result c.in-Some.cert = subst (IsCov c.args.env.now c.args.e c.corners.result) c.in-Some.is c.in_ok-cert.ensures in
-    record { face = c.numbered.ensures; cert = subst (λ f. IsCertificateOf c.args.env.now c.args.e f c.in-Some.cert) c.corners.ensures.value found }
+    record { face = c.with_file_numbers.ensures; cert = subst (λ f. IsCertificateOf c.args.env.now c.args.e f c.in-Some.cert) c.corners.ensures.value found }

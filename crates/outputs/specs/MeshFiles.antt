@@ -3,7 +3,7 @@ use Rattle.std.specs.Prelude.{◌≡◌, ℕ, ◌≤◌, Bool, List, [], ◌∷�
 use Rattle.grid.specs.Limits.{IsCells, most_epsilon}
 use Rattle.grid.specs.Regions.{AreRegions}
 use Rattle.mesh_types.specs.Views.{mesh_of}
-use Rattle.mesher.specs.declared.meshed.Meshed.{Meshed}
+use Rattle.mesher.specs.declared.mesh.Meshed.{Meshed}
 use Rattle.mesher.specs.Meshed.{IsMeshed}
 use Rattle.soup.specs.declared.raw.Soup.{Soup}
 use Rattle.msh_text.specs.declared.file_mesh.MshMesh.{MshMesh}
@@ -11,10 +11,10 @@ use Rattle.msh_text.specs.FileMesh.{msh_of}
 use Rattle.msh_text.specs.Text.{msh_text, kept_text}
 use Rattle.report_text.specs.declared.report.Report.{Report}
 use Rattle.report_text.specs.Text.{report_text}
-use Rattle.outputs.specs.declared.asked.Asked.{Asked}
-use Rattle.outputs.specs.declared.asked.Names.{Names}
-use Rattle.outputs.specs.declared.written.OutFile.{OutFile}
-use Rattle.outputs.specs.declared.written.Texts.{Texts}
+use Rattle.outputs.specs.declared.request.Asked.{Asked}
+use Rattle.outputs.specs.declared.request.Names.{Names}
+use Rattle.outputs.specs.declared.output.OutFile.{OutFile}
+use Rattle.outputs.specs.declared.output.Texts.{Texts}
 use Rattle.outputs.specs.Summary.{summary_line}
 
 -- the numbers are within their limits

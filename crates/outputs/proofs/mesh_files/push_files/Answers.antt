@@ -1,7 +1,7 @@
 use Rattle.std.proofs.Common.{◌∙◌, ◌∷◌, ◌++◌}
-use Rattle.outputs.specs.Made.{kept_files}
+use Rattle.outputs.specs.MeshFiles.{kept_files}
 use Rattle.outputs.proofs.Making.{two_files, file_is}
-use Rattle.outputs.proofs.made.push_files.Goals as goal
+use Rattle.outputs.proofs.mesh_files.push_files.Goals as goal
 
 pub returns : goal.returns
 returns c =

@@ -3,10 +3,10 @@ use Rattle.std.proofs.lemmas.List.{length-map}
 use Rattle.grid.specs.declared.shapes.Tet.{Tet}
 use Rattle.mesh_types.specs.Views.{mesh_of}
 use Rattle.msh_text.specs.declared.file_mesh.MshMesh.{MshMesh}
-use Rattle.outputs.specs.Made.{files_of}
+use Rattle.outputs.specs.MeshFiles.{files_of}
 use Rattle.outputs.specs.Summary.{summary_line}
 use Rattle.outputs.proofs.Making.{few-tets, tets-in_range, tracked-in_range, file-digits, texts_are}
-use Rattle.outputs.proofs.made.texts_of.Goals as goal
+use Rattle.outputs.proofs.mesh_files.texts_of.Goals as goal
 
 pub outside-requires : goal.outside-requires
 outside-requires c = rw c.as_slice.ensures (few-tets c.args.made.mesh c.requires.meshed.well_formed c.requires.meshed.within)

@@ -17,7 +17,7 @@ use Rattle.mesh_store.proofs.ForCallers.{well_formed}
 use Rattle.mesher.specs.Meshed.{AreCoverings, HasItsCertificate, IsSecondOrNone}
 use Rattle.mesher.proofs.Beginning.{first-mesh}
 use Rattle.mesher.proofs.Ending.{have-certificates, in-setting, meshed-is, part-of, tiles-as}
-use Rattle.mesher.proofs.meshed.mesh_soup.Goals as goal
+use Rattle.mesher.proofs.mesh.mesh_soup.Goals as goal
 
 pub new-requires : goal.new-requires
 new-requires c =

@@ -3,8 +3,8 @@ use Rattle.std.specs.Prelude.{◌≡◌, ◌≢◌, ◌⊎◌, ℕ, true, List, 
 use Rattle.std.specs.List.{AllPairs}
 use Rattle.mesh_io.specs.Folder.{FolderState, Files, WriteCall, WriteRose}
 use Rattle.mesh_io.specs.Sink.{SinkState, SinkCall, SinkRose, Appended}
-use Rattle.outputs.specs.declared.written.OutFile.{OutFile}
-use Rattle.outputs.specs.declared.written.Texts.{Texts}
+use Rattle.outputs.specs.declared.output.OutFile.{OutFile}
+use Rattle.outputs.specs.declared.output.Texts.{Texts}
 use Rattle.printing.specs.Printed.{Says, write_failed_line}
 
 -- ---- the files

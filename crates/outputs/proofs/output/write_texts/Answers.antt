@@ -1,5 +1,5 @@
 use Rattle.outputs.proofs.Writing.{cut_at_file, cut_at_output, all_written}
-use Rattle.outputs.proofs.written.write_texts.Goals as goal
+use Rattle.outputs.proofs.output.write_texts.Goals as goal
 
 pub returns-in-Some : goal.returns-in-Some
 returns-in-Some g c =

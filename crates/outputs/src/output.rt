@@ -1,6 +1,6 @@
 // The writes of a run.
 ghost use Rattle.std.specs.Option.{option_map};
-ghost use Rattle.outputs.specs.Written.{NamesDiffer, Writes, WritesFiles};
+ghost use Rattle.outputs.specs.Output.{NamesDiffer, Writes, WritesFiles};
 
 use items::{Items, Text};
 use mesh_io::{Failed, Folder, Sink, write_all, write_file};

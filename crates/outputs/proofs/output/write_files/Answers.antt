@@ -1,5 +1,5 @@
 use Rattle.outputs.proofs.Writing.{begun, goes_on, all_files, fails}
-use Rattle.outputs.proofs.written.write_files.Goals as goal
+use Rattle.outputs.proofs.output.write_files.Goals as goal
 
 pub loop-file-init : goal.loop-file-init
 loop-file-init g c = begun (g.F.Folder.state c.args.folder.now)

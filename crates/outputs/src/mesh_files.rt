@@ -3,11 +3,11 @@ ghost use Rattle.std.specs.Prelude.{◌≡◌, ◌≤◌, ◌≤ℤ◌, ◌*◌,
 ghost use Rattle.grid.specs.Boxes.{IsTriInBox};
 ghost use Rattle.grid.specs.Limits.{IsSide, largest_side, most_input};
 ghost use Rattle.mesher.specs.Meshed.{IsMeshed};
-ghost use Rattle.outputs.specs.Made.{IsAsked, IsMade, files_of, kept_files};
+ghost use Rattle.outputs.specs.MeshFiles.{IsAsked, IsMade, files_of, kept_files};
 
-use crate::asked::{Asked, Names};
+use crate::output::{OutFile, Texts};
+use crate::request::{Asked, Names};
 use crate::summary::write_summary;
-use crate::written::{OutFile, Texts};
 use flood::outside;
 use grid::Memory;
 use items::{Items, Text};
@@ -69,7 +69,7 @@ fn push_files(
 
 fn report_of(asked: Asked, soup: &Soup, made: Meshed) -> Report
     requires side { IsSide soup.now.side }
-    ensures { result ≡ Rattle.outputs.specs.Made.report_of asked soup.now made }
+    ensures { result ≡ Rattle.outputs.specs.MeshFiles.report_of asked soup.now made }
 {
     Report {
         epsilon: asked.epsilon,
