@@ -1,28 +1,24 @@
 -- Sorting and keeping one of each gives the list in rising order, each once.
 use Rattle.std.proofs.Common.{◌≡◌, ℕ, Bool, true, false, ◌||◌, map, refl, ap, sym, ◌∙◌, List, [], ◌∷◌}
 use Rattle.std.specs.declared.cmp.Ordering.{Ordering}
-use Rattle.std.specs.declared.cmp.Ordering.TheVariants.{Less}
-use Rattle.std.specs.Cmp.{IsStrictWeakOrder, IsTotalOrder}
+use Rattle.std.specs.Cmp.{IsStrictWeakOrder}
 use Rattle.std.specs.Cmp.Lexicographic.{slice_cmp}
 use Rattle.std.specs.Borrow.{Bor}
 use Rattle.std.specs.Fn.{Called, ComparesAs, Mut}
-use Rattle.std.specs.List.{list_any, AllByRecursion, dedup, dedup_from}
-use Rattle.std.specs.List.Sorted.{IsPermutation, IsSorted, IsSortedBy, IsStrictlySortedBy}
+use Rattle.std.specs.List.{list_any, dedup, dedup_from}
+use Rattle.std.specs.List.Sorted.{IsPermutation, IsSorted, IsSortedBy}
 use Rattle.std.specs.Ordering.{nat_cmp, is_lt}
 use Rattle.std.proofs.lemmas.Bool.{cases_Bool}
-use Rattle.std.proofs.lemmas.Bool.Decides.{nat_tests}
-use Rattle.std.proofs.lemmas.Cmp.{same_from_slice_cmp, nat_list_cmp_total}
+use Rattle.std.proofs.lemmas.Cmp.{nat_list_cmp_total}
 use Rattle.std.proofs.lemmas.List.Kept.{IsStrictlySortedBy-dedup}
 use Rattle.std.proofs.lemmas.List.Sorted.{answers_always, list_any-IsPermutation, ranks_by}
 use Rattle.std.proofs.lemmas.Map.Text.{is_eq-slice_cmp}
-use Rattle.std.proofs.Common.{arith, inl, inr}
-use Rattle.grid.specs.Meshes.{is_below, Ordered}
+use Rattle.std.proofs.Common.{inl, inr}
+use Rattle.grid.specs.Meshes.{is_below}
 use Rattle.grid.specs.Simplices.{same_triple}
+use Rattle.grid.proofs.ForCallers.{is_below-is_lt, slice_cmp-total, Ordered-sorted}
 use Rattle.mesh_types.specs.Tracking.{in_order_once}
 use Rattle.mesh_types.proofs.ForCallers.{is_among, equal_from, ordered_same, in_order_once-Ordered, is_among-in_order_once}
-
-is_below-is_lt : (x y : List ℕ) (o : Ordering) → o ≡ slice_cmp nat_cmp x y → is_lt o ≡ is_below x y
-is_below-is_lt = same_from_slice_cmp nat_cmp is_lt is_below refl (λ _ _. refl) (λ _ _. refl) (λ x y xs ys o h. grind (arith, nat_tests))
 
 or_step : (p q r : Bool) → p ≡ q → (p || (q || r)) ≡ (p || r)
 or_step true q r e = refl
@@ -38,22 +34,6 @@ module _ {X : Type 0} (f : X → List ℕ) where
 
   abbrev pub same : X → X → Bool
   same x y = same_triple (f x) (f y)
-
-  cmp-total : IsTotalOrder cmp
-  cmp-total = record {
-    antisymm = λ x y. nat_list_cmp_total.antisymm (f x) (f y);
-    trans = λ x y z. nat_list_cmp_total.trans (f x) (f y) (f z);
-    congr = λ x y z. nat_list_cmp_total.congr (f x) (f y) (f z);
-  }
-
-  below_all : (x : X) (ys : List X) → AllByRecursion (λ y. cmp x y ≡ Less) ys → AllByRecursion (λ t. is_below (f x) t ≡ true) (map f ys)
-  below_all x [] h = tt
-  below_all x (y ∷ ys) h = (sym (is_below-is_lt (f x) (f y) (cmp x y) refl) ∙ ap is_lt h.0, below_all x ys h.1)
-
-  pub Ordered-strict : (xs : List X) → IsStrictlySortedBy cmp xs → Ordered (map f xs)
-  unfolding IsStrictlySortedBy
-  Ordered-strict [] h = tt
-  Ordered-strict (x ∷ xs) h = (below_all x xs h.0, Ordered-strict xs h.1)
 
   any-dedup_from : (t : List ℕ) (k : X) (xs : List X) → is_among t (map f (dedup_from same k xs)) ≡ (same_triple t (f k) || is_among t (map f xs))
   any-dedup_from t k [] = refl
@@ -80,6 +60,6 @@ module _ {X : Type 0} (f : X → List ℕ) where
   pub sorted-once : (xs ys : List X) → IsPermutation xs ys → IsSorted cmp ys → map f (dedup same ys) ≡ in_order_once (map f xs)
   sorted-once xs ys moved sorted =
       ordered_same (map f (dedup same ys)) (in_order_once (map f xs))
-      (Ordered-strict (dedup same ys) (IsStrictlySortedBy-dedup cmp-total (λ x y. sym (is_eq-slice_cmp (f x) (f y))) ys sorted))
+      (Ordered-sorted f (dedup same ys) (IsStrictlySortedBy-dedup (slice_cmp-total f) (λ x y. sym (is_eq-slice_cmp (f x) (f y))) ys sorted))
       (in_order_once-Ordered (map f xs))
       (λ t. any-dedup t ys ∙ (any-map t ys ∙ (sym (list_any-IsPermutation (λ x. same_triple t (f x)) xs ys moved) ∙ (sym (any-map t xs) ∙ sym (is_among-in_order_once t (map f xs))))))

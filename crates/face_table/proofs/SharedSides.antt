@@ -1,5 +1,5 @@
 -- The sides that points share, from the bits of their sides.
-use Rattle.std.proofs.Common.{◌≡◌, ◌≢◌, ℕ, zero, suc, ◌*◌, ◌/◌, ◌%◌, ◌^◌, ◌<◌, ◌↔◌, min, Bool, true, false, true≢false, ℤ, pos, negsuc, not, nat_eq, IsBitSet, bit_and, List, [], ◌∷◌, length, get_or, refl, ap, sym, ◌∙◌, subst, inl, inr, arith}
+use Rattle.std.proofs.Common.{◌≡◌, ◌≢◌, ℕ, zero, suc, ◌*◌, ◌/◌, ◌%◌, ◌^◌, ◌<◌, ◌↔◌, min, Bool, true, false, true≢false, ℤ, pos, negsuc, not, nat_eq, IsBitSet, bit_and, List, [], ◌∷◌, length, get_or, ap, sym, ◌∙◌, subst, inl, inr, arith}
 use Rattle.std.specs.Int.{bit_at}
 use Rattle.std.specs.Bool.{IsTrue}
 use Rattle.std.proofs.lemmas.Bool.{cases_Bool, cases_eq, cases_lt, both_ways, not-true, not_from_false, ne_eqb, eq-eqb, false_from_ne_true}
@@ -10,7 +10,7 @@ use Rattle.grid.specs.declared.shapes.Point.{Point}
 use Rattle.grid.specs.Boxes.{Axis, along_x, along_y, along_z, Side, IsOn, IsOnOneSide}
 use Rattle.grid.specs.Determinants.{point_at}
 use Rattle.grid.specs.Simplices.{is_rotation}
-use Rattle.grid.proofs.ForCallers.{has3-cases, side_bits-IsOn}
+use Rattle.grid.proofs.ForCallers.{has3-cases, side_at, side_bits-IsOn}
 use Rattle.face_table.proofs.RotationLemmas.{has3-first, has3-second, has3-third, has-rotation}
 use Rattle.grid.specs.SideBits.{bit_of, number_of, side_bits}
 use Rattle.face_table.specs.declared.pairs.Paired.{Paired}
@@ -36,16 +36,6 @@ set-from n k h z =
 
 set-to : (n k : ℕ) → IsBitSet n k → bit_at n k ≢ 0
 set-to n k h z = h (and_pow n k ∙ ap (λ d. d * 2 ^ k) z ∙ omega arith)
-
--- the side of a bit
-side_of : (i : ℕ) → i < 6 → (s : Side) × (bit_of s ≡ i)
-side_of zero l = (record { axis = along_x; is_far = false }, refl)
-side_of (suc zero) l = (record { axis = along_x; is_far = true }, refl)
-side_of (suc (suc zero)) l = (record { axis = along_y; is_far = false }, refl)
-side_of (suc (suc (suc zero))) l = (record { axis = along_y; is_far = true }, refl)
-side_of (suc (suc (suc (suc zero)))) l = (record { axis = along_z; is_far = false }, refl)
-side_of (suc (suc (suc (suc (suc zero))))) l = (record { axis = along_z; is_far = true }, refl)
-side_of (suc (suc (suc (suc (suc (suc i)))))) l = absurd (omega arith)
 
 -- the bits x are those of the sides on which p lies
 abbrev AreSidesOf : ℤ → Point → ℕ → Type 0
@@ -119,7 +109,7 @@ module _ (l : ℤ) (x y z : ℕ) (p q r : Point) (hp : AreSidesOf l p x) (hq : A
       let small : n < 2 ^ 6 = omega (arith, few, and_le_l (bit_and x y) z, and_le_l x y) in
       let found = bit-found 6 n small h in
       let below : found.0 < 6 = elim (cases_lt found.0 6) [ inl e ↦ e | inr e ↦ absurd (found.1 (bit_at_above n 6 found.0 small e)) ] in
-      let s = side_of found.0 below in
+      let s = side_at found.0 below in
       let set : bit_at n (bit_of s.0) ≢ 0 = subst (λ i. bit_at n i ≢ 0) (sym s.1) found.1 in
       let e = all_bits x y z (bit_of s.0) in
       record {

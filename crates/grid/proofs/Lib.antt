@@ -1,5 +1,6 @@
 mod Members
 mod Lists
+mod Below
 mod Rotations
 mod VectorExpressions
 mod Gaps

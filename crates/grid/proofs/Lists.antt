@@ -1,6 +1,7 @@
 -- Which numbers a list and its beginning have.
-use Rattle.std.proofs.Common.{◌≡◌, ℕ, zero, suc, ◌<◌, Bool, true, false, ◌||◌, nat_eq, List, [], ◌∷◌, ◌++◌, length, take, get_or, refl, sym, ◌∙◌, ap, inl, inr, arith}
+use Rattle.std.proofs.Common.{◌≡◌, ℕ, zero, suc, ◌-◌, ◌<◌, Bool, true, false, ◌||◌, nat_eq, List, [], ◌∷◌, ◌++◌, length, take, get_or, refl, sym, ◌∙◌, ap, inl, inr, arith}
 use Rattle.std.proofs.lemmas.Bool.{cases_Bool, eqb-true, eq-eqb, false≢true, or_from, or_right}
+use Rattle.std.proofs.lemmas.List.{take_at, length_push}
 use mathlib.Core.Bool.{or_assoc, or-false}
 use Rattle.grid.specs.Simplices.{has, AreDifferent}
 
@@ -10,6 +11,10 @@ has-append (x ∷ xs) ys i = ap (λ (t : Bool). nat_eq x i || t) (has-append xs 
 
 pub has-push : (xs : List ℕ) (c u : ℕ) → has (xs ++ c ∷ []) u ≡ (has xs u || nat_eq c u)
 has-push xs c u = has-append xs (c ∷ []) u ∙ ap (λ (t : Bool). has xs u || t) (or-false (nat_eq c u))
+
+-- all but the last of what was put behind a list
+pub take-push : (xs : List ℕ) (c : ℕ) → take (length (xs ++ c ∷ []) - 1) (xs ++ c ∷ []) ≡ xs
+take-push xs c = take_at xs (c ∷ []) (length (xs ++ c ∷ []) - 1) (omega (arith, length_push xs c))
 
 pub shorter : (j n : ℕ) → suc j < suc n → j < n
 shorter j n h = omega arith

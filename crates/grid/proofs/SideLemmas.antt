@@ -71,3 +71,24 @@ joined a b c d e f = omega arith
 pub side_bits-ends : (p : Point) (l x y z s : ℤ) (m n k : ℕ) → x ≡ p.x → y ≡ p.y → z ≡ p.z → s ≡ l → m ≡ ends x s → n ≡ ends y s → k ≡ ends z s → m + 4 * n + 16 * k ≡ side_bits l p
 side_bits-ends p l x y z s m n k ex ey ez es em en ek =
     (λ i. em i + 4 * en i + 16 * ek i) ∙ (λ i. ends (ex i) (es i) + 4 * ends (ey i) (es i) + 16 * ends (ez i) (es i)) ∙ joined _ _ _ _ _ _
+
+-- the bits of the sides are 0 to 5, each that of one side
+pub bit-below : (s : Side) → bit_of s < 6
+bit-below s = by s.axis s.is_far
+  where
+    by : (a : Axis) (f : Bool) → bit_of (record { axis = a; is_far = f }) < 6
+    by along_x false = omega arith
+    by along_x true = omega arith
+    by along_y false = omega arith
+    by along_y true = omega arith
+    by along_z false = omega arith
+    by along_z true = omega arith
+
+pub side_at : (k : ℕ) → k < 6 → (s : Side) × (bit_of s ≡ k)
+side_at zero l = (record { axis = along_x; is_far = false }, refl)
+side_at (suc zero) l = (record { axis = along_x; is_far = true }, refl)
+side_at (suc (suc zero)) l = (record { axis = along_y; is_far = false }, refl)
+side_at (suc (suc (suc zero))) l = (record { axis = along_y; is_far = true }, refl)
+side_at (suc (suc (suc (suc zero)))) l = (record { axis = along_z; is_far = false }, refl)
+side_at (suc (suc (suc (suc (suc zero))))) l = (record { axis = along_z; is_far = true }, refl)
+side_at (suc (suc (suc (suc (suc (suc k)))))) l = absurd (omega arith)

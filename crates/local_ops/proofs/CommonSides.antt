@@ -1,14 +1,14 @@
 -- The sides that two points share, by bits.
-use Rattle.std.proofs.Common.{◌≡◌, ◌↔◌, ℕ, zero, suc, ◌*◌, ◌<◌, ◌^◌, Bool, true, false, IsBitSet, IsTrue, pos, nat_eq, bit_and, eq-eqb, refl, sym, ◌∙◌, ap, subst, arith}
+use Rattle.std.proofs.Common.{◌≡◌, ◌↔◌, ℕ, zero, suc, ◌*◌, ◌<◌, ◌^◌, IsBitSet, IsTrue, pos, nat_eq, bit_and, eq-eqb, refl, sym, ◌∙◌, ap, subst, arith}
 use Rattle.std.specs.Prelude.{min}
 use Rattle.std.specs.Int.{bit_at}
 use Rattle.std.proofs.lemmas.Bool.{eqb-true}
 use Rattle.std.proofs.lemmas.Nat.{and_le_l, pow_pos}
 use Rattle.std.proofs.lemmas.Nat.Bits.{and_pow, bit_at_and, bit_at-lt, bit_at-zero, same_from_bits_below}
 use Rattle.grid.specs.declared.shapes.Point.{Point}
-use Rattle.grid.specs.Boxes.{Axis, along_x, along_y, along_z, Side, IsOn}
+use Rattle.grid.specs.Boxes.{Side, IsOn}
 use Rattle.grid.specs.SideBits.{bit_of, side_bits}
-use Rattle.grid.proofs.ForCallers.{side_bits-IsOn}
+use Rattle.grid.proofs.ForCallers.{bit-below, side_at, side_bits-IsOn}
 
 -- ---- bits
 set-one : (n k : ℕ) → IsBitSet n k ↔ (bit_at n k ≡ 1)
@@ -57,26 +57,6 @@ disjoint a b l = (
     none (suc (suc x)) y l m h = absurd (omega arith)
 
 -- ---- sides
-bit-below : (s : Side) → bit_of s < 6
-bit-below s = by s.axis s.is_far
-  where
-    by : (a : Axis) (f : Bool) → bit_of (record { axis = a; is_far = f }) < 6
-    by along_x false = omega arith
-    by along_x true = omega arith
-    by along_y false = omega arith
-    by along_y true = omega arith
-    by along_z false = omega arith
-    by along_z true = omega arith
-
-side_at : (k : ℕ) → k < 6 → (s : Side) × (bit_of s ≡ k)
-side_at zero l = (record { axis = along_x; is_far = false }, refl)
-side_at (suc zero) l = (record { axis = along_x; is_far = true }, refl)
-side_at (suc (suc zero)) l = (record { axis = along_y; is_far = false }, refl)
-side_at (suc (suc (suc zero))) l = (record { axis = along_y; is_far = true }, refl)
-side_at (suc (suc (suc (suc zero)))) l = (record { axis = along_z; is_far = false }, refl)
-side_at (suc (suc (suc (suc (suc zero))))) l = (record { axis = along_z; is_far = true }, refl)
-side_at (suc (suc (suc (suc (suc (suc k)))))) l = absurd (omega arith)
-
 module _ (l : ℕ) (p q : Point) (few : side_bits (pos l) p < 64) where
   on : (p : Point) (s : Side) → IsOn l s p → bit_at (side_bits (pos l) p) (bit_of s) ≡ 1
   on p s h = (set-one (side_bits (pos l) p) (bit_of s)).0 ((side_bits-IsOn l p s).1 h)

@@ -58,9 +58,6 @@ Contains-from_has (x ∷ xs) i h = elim (or_cases (nat_eq x i) (has xs i) h) [
     more k n h = omega arith
 
 -- ---- what grows
-pub Grows-none : (test : ℕ → Bool) (xs : List ℕ) → Grows test xs xs
-Grows-none test xs = record { kept = λ i h. h; sound = λ i h. or_left (has xs i) (test i) h }
-
 pub Grows-then : (test : ℕ → Bool) (xs ys zs : List ℕ) → Grows test xs ys → Grows test ys zs → Grows test xs zs
 Grows-then test xs ys zs h k = record {
   kept = λ i e. k.kept i (h.kept i e);
@@ -112,12 +109,6 @@ module _ {S : Type 0} where
   Finds-by_keys test bins n found all h b i e t =
       let r = key-from b i bins.entries e in
       h b r.0 (omega (arith, all, r.1)) i (ap (λ (c : Bin). has (in_bin bins c) i) r.2 ∙ e) t
-
--- what a look-up at an index gave
-pub read-from_get : {X : Type 0} (xs : List X) (k : ℕ) (v d : X) → Some v ≡ slice_get xs k → v ≡ get_or xs k d
-read-from_get [] k v d h = cc
-read-from_get (x ∷ xs) zero v d h = cc
-read-from_get (x ∷ xs) (suc k) v d h = read-from_get xs k v d h
 
 key-from_get : {X : Type 0} (es : List (Bin × X)) (k : ℕ) (b : Bin) (v : X) (d : Bin) → slice_get es k ≡ Some (b, v) → get_or (keys_of es) k d ≡ b
 key-from_get [] k b v d h = cc

@@ -7,11 +7,11 @@ use Rattle.indexmap.specs.IndexMap.{IndexMap}
 use Rattle.grid.specs.declared.shapes.Face.{Face}
 use Rattle.grid.specs.Meshes.{IsTriple}
 use Rattle.grid.specs.Simplices.{has}
+use Rattle.grid.proofs.ForCallers.{take-push}
 use Rattle.tracked.specs.Keys.{Keys, same_face, state_of, put}
 use Rattle.tracked.specs.Places.{IsChanged, IsIndexed, places_at, places_of, and_last, but_last}
 use Rattle.tracked.proofs.KeyLemmas.{put-new}
 use Rattle.tracked.proofs.KeyFacts.{All-put, All-key}
-use Rattle.tracked.proofs.PlaceLemmas.{but_last-push}
 
 -- ---- a key that is there
 places-put : (u k : ℕ) (f : Face) (b c : Bool) (keys : Keys) → state_of f keys ≡ Some c → places_of u k (put f b keys) ≡ places_of u k keys
@@ -87,7 +87,7 @@ module _ {S : Type 0} where
     where
       step : (u : ℕ) (b : Bool) → places_at new u ≡ cond b (but_last (places_at old u)) (places_at old u) → places_at old u ≡ cond b (places_of u 0 rest ++ (0 + length rest) ∷ []) (places_of u 0 rest)
           → places_at new u ≡ places_of u 0 rest
-      step u true p q = p ∙ (ap but_last q ∙ but_last-push (places_of u 0 rest) (0 + length rest))
+      step u true p q = p ∙ (ap but_last q ∙ take-push (places_of u 0 rest) (0 + length rest))
       step u false p q = p ∙ q
 
 -- the newest key is a triple

@@ -1,17 +1,14 @@
 -- How the places at the corners change.
-use Rattle.std.proofs.Common.{◌≡◌, ℕ, ◌+◌, ◌-◌, ◌<◌, Bool, true, false, cond, ◌||◌, nat_eq, List, [], ◌∷◌, ◌++◌, Option, Some, length, take, get_or, refl, sym, subst, ◌∙◌, ap, inl, inr, arith}
+use Rattle.std.proofs.Common.{◌≡◌, ℕ, ◌+◌, ◌-◌, ◌<◌, Bool, true, false, cond, ◌||◌, nat_eq, List, Option, Some, length, take, get_or, refl, sym, subst, ◌∙◌, ap, inl, inr}
 use Rattle.std.proofs.lemmas.Bool.{cases_Bool, eqb-true, false≢true}
-use Rattle.std.proofs.lemmas.List.{take_more, take_at, length_push}
+use Rattle.std.proofs.lemmas.List.{take_more}
 use Rattle.smallvec.specs.SmallVec.{SmallVec}
 use Rattle.indexmap.specs.IndexMap.{IndexMap, get}
 use Rattle.grid.specs.Simplices.{has, AreDifferent}
-use Rattle.grid.proofs.ForCallers.{has-push, none-before}
+use Rattle.grid.proofs.ForCallers.{has-push, take-push, none-before}
 use Rattle.tracked.specs.Places.{IsChanged, IsChangedAt, IsSame, places_at, numbers_in, and_last, but_last}
 
 -- ---- one point
-pub but_last-push : (xs : List ℕ) (i : ℕ) → but_last (xs ++ i ∷ []) ≡ xs
-but_last-push xs i = take_at xs (i ∷ []) (length (xs ++ i ∷ []) - 1) (omega (arith, length_push xs i))
-
 module _ {S : Type 0} (point : ℕ) (old new : IndexMap ℕ (SmallVec ℕ) S) where
   written-at : (o : Option (SmallVec ℕ)) → ((q : ℕ) → get nat_eq new q ≡ cond (nat_eq point q) o (get nat_eq old q)) → (u : ℕ) → places_at new u ≡ cond (nat_eq point u) (numbers_in o) (places_at old u)
   written-at o h u = ap numbers_in (h u) ∙ by_case (nat_eq point u)
@@ -70,7 +67,7 @@ module _ {S : Type 0} (old mid new : IndexMap ℕ (SmallVec ℕ) S) where
   IsSame-undone i cs h k = record { each = λ u. undone (has cs u) (places_at old u) (places_at mid u) (places_at new u) (h.each u) (k.each u) }
     where
       undone : (b : Bool) (xs ys zs : List ℕ) → ys ≡ cond b (and_last i xs) xs → zs ≡ cond b (but_last ys) ys → zs ≡ xs
-      undone true xs ys zs p q = q ∙ (ap but_last p ∙ but_last-push xs i)
+      undone true xs ys zs p q = q ∙ (ap but_last p ∙ take-push xs i)
       undone false xs ys zs p q = q ∙ p
 
 -- what was put last and taken out again, after a step that kept all places

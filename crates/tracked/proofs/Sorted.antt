@@ -1,45 +1,24 @@
 -- Faces that are sorted and differ are in strictly rising order.
-use Rattle.std.proofs.Common.{◌≡◌, ℕ, ◌+◌, ◌<◌, ◌≤◌, true, false, length, get_or, refl, ap, sym, ◌∙◌, List, [], ◌∷◌, arith}
+use Rattle.std.proofs.Common.{◌≡◌, ℕ, ◌+◌, ◌<◌, ◌≤◌, false, length, get_or, refl, sym, ◌∙◌, List, [], ◌∷◌, arith}
 use Rattle.std.specs.declared.cmp.Ordering.{Ordering}
 use Rattle.std.specs.declared.cmp.Ordering.TheVariants.{Less, Equal, Greater}
 use Rattle.std.specs.Cmp.{IsTotalOrder}
 use Rattle.std.specs.Cmp.Lexicographic.{slice_cmp}
 use Rattle.std.specs.List.{IsDistinct, AllByRecursion}
-use Rattle.std.specs.List.Sorted.{IsPermutation, IsStrictlySortedBy}
+use Rattle.std.specs.List.Sorted.{IsPermutation}
 use Rattle.std.specs.Ordering.{nat_cmp, is_lt, is_eq, ordering_reverse}
-use Rattle.std.proofs.lemmas.Bool.Decides.{nat_tests}
-use Rattle.std.proofs.lemmas.Cmp.{same_from_slice_cmp, nat_list_cmp_total}
 use Rattle.std.proofs.lemmas.Map.Keys.{IsDistinct-IsPermutation, apart_from_distinct, sorted_from_all_adjacent}
 use Rattle.std.proofs.lemmas.Map.Text.{is_eq-slice_cmp}
 use Rattle.std.proofs.lemmas.Slice.Eq.{bytes_eq-Decides}
 use Rattle.grid.specs.declared.shapes.Face.{Face}
-use Rattle.grid.specs.Meshes.{is_below, Ordered}
+use Rattle.grid.specs.Meshes.{Ordered}
 use Rattle.grid.specs.Views.{triples_of}
 use Rattle.grid.specs.Simplices.{same_triple}
-use Rattle.grid.proofs.ForCallers.{same_bools}
+use Rattle.grid.proofs.ForCallers.{same_bools, slice_cmp-total, Ordered-sorted}
 use Rattle.tracked.specs.Keys.{same_face}
 
 abbrev pub face_cmp : Face → Face → Ordering
 face_cmp f g = slice_cmp nat_cmp f.0 g.0
-
-pub face_cmp-total : IsTotalOrder face_cmp
-face_cmp-total = record {
-  antisymm = λ f g. nat_list_cmp_total.antisymm f.0 g.0;
-  trans = λ f g h. nat_list_cmp_total.trans f.0 g.0 h.0;
-  congr = λ f g h. nat_list_cmp_total.congr f.0 g.0 h.0;
-}
-
-is_below-is_lt : (x y : List ℕ) (o : Ordering) → o ≡ slice_cmp nat_cmp x y → is_lt o ≡ is_below x y
-is_below-is_lt = same_from_slice_cmp nat_cmp is_lt is_below refl (λ _ _. refl) (λ _ _. refl) (λ x y xs ys o h. grind (arith, nat_tests))
-
-below_all : (f : Face) (gs : List Face) → AllByRecursion (λ g. face_cmp f g ≡ Less) gs → AllByRecursion (λ t. is_below f.0 t ≡ true) (triples_of gs)
-below_all f [] h = tt
-below_all f (g ∷ gs) h = (sym (is_below-is_lt f.0 g.0 (face_cmp f g) refl) ∙ ap is_lt h.0, below_all f gs h.1)
-
-pub Ordered-sorted : (fs : List Face) → IsStrictlySortedBy face_cmp fs → Ordered (triples_of fs)
-unfolding IsStrictlySortedBy
-Ordered-sorted [] h = tt
-Ordered-sorted (f ∷ fs) h = (below_all f fs h.0, Ordered-sorted fs h.1)
 
 abbrev LessOrEqual : List Face → Type 0
 LessOrEqual fs = (k : ℕ) (d : Face) → 0 ≤ k → k + 1 < length fs → is_lt (face_cmp (get_or fs (k + 1) d) (get_or fs k d)) ≡ false
@@ -68,7 +47,8 @@ pub Ordered-of_sorted : (fs gs : List Face) → IsPermutation fs gs → IsDistin
 Ordered-of_sorted fs gs moved distinct sorted =
     let apart = IsDistinct-IsPermutation same_face (λ f g. flip_eq f.0 g.0) fs gs moved (distinct_faces fs distinct) in
     let none : Face = record { 0 = [] } in
-    Ordered-sorted gs (sorted_from_all_adjacent face_cmp-total gs none (λ k h.
+    let total : IsTotalOrder face_cmp = slice_cmp-total (λ (f : Face). f.0) in
+    Ordered-sorted (λ (f : Face). f.0) gs (sorted_from_all_adjacent total gs none (λ k h.
     less (face_cmp (get_or gs k none) (get_or gs (k + 1) none)) (face_cmp (get_or gs (k + 1) none) (get_or gs k none))
-    (face_cmp-total.antisymm (get_or gs k none) (get_or gs (k + 1) none)) (sorted k none (omega arith) h)
+    (total.antisymm (get_or gs k none) (get_or gs (k + 1) none)) (sorted k none (omega arith) h)
     (is_eq-slice_cmp (get_or gs k none).0 (get_or gs (k + 1) none).0 ∙ apart_from_distinct same_face gs k (k + 1) none apart (omega arith) h)))
