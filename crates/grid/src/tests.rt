@@ -44,6 +44,8 @@ fn corners_and_faces(rt: HostRuntime) {
     assert_eq!(rt; g, Face([7, 3, 5]), "opposite to the third");
     assert_eq!(rt; h, Face([7, 5, 9]), "opposite to the second");
     assert_eq!(rt; k, Face([3, 9, 5]), "opposite to the first");
+    assert!(rt; k.has(5) && !k.has(7), "of the first");
+    assert_eq!(rt; k.subst(9, 2), Face([3, 2, 5]), "in place");
     assert_eq!(rt; k.reverse(), Face([3, 5, 9]), "reversed");
     assert_eq!(rt; k.rising(), Face([3, 5, 9]), "rising");
     assert!(rt; k.same(Face([5, 3, 9])), "rotated");

@@ -13,7 +13,6 @@ ghost use Rattle.std.specs.Prelude.{IfOk, IsTrue, List, length, nat_eq, nat_lt, 
 use grid::{Face, Memory};
 use mesh_store::Store;
 use mesh_types::Try;
-use pieces::Simplex;
 use std::alloc::Global;
 
 /// Whether u is a point of the rim of the tracked faces.
@@ -105,12 +104,12 @@ fn are_moved_apart(store: &Store, faces: &[Face], u: u32, v: u32) -> bool
 fn is_moved_apart(store: &Store, face: Face, u: u32, v: u32) -> bool
     ensures { result ≡ is_moved_apart (mesh_in store.now.parts).tracked u v face.0 }
 {
-    face.has_corner(v) || !is_tracked(store, moved(face, u, v))
+    face.has(v) || !is_tracked(store, moved(face, u, v))
 }
 
 /// The face with v in place of u, in rising order.
 fn moved(face: Face, u: u32, v: u32) -> Face
     ensures { result.0 ≡ rising (replaced u v face.0) }
 {
-    face.with_corner(u, v).rising()
+    face.subst(u, v).rising()
 }

@@ -16,7 +16,6 @@ use crate::single::count_in;
 use crate::swapping::Sides;
 use grid::{Face, Memory, Tet};
 use mesh_store::outside_corner;
-use pieces::Simplex;
 use std::alloc::Global;
 use tet_slots::Slots;
 
@@ -108,7 +107,7 @@ fn is_new_once(x: Tet, y: Tet, new: &[Tet], far: u32, apex: u32, face: Face) -> 
     if is_face(face, y) {
         return true;
     }
-    face.has_corner(far) && face.has_corner(apex)
+    face.has(far) && face.has(apex)
 }
 
 /// How often the face occurs among the tetrahedra.

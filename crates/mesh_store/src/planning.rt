@@ -5,7 +5,6 @@ ghost use Rattle.mesh_store.specs.Exchanges.{put_in, tet_in};
 ghost use Rattle.std.specs.Prelude.{All, IfOk, OnOk, [], length, map, ◌++◌, ◌<◌, ◌∷◌, ◌≡◌};
 
 use grid::{Face, Memory, Tet};
-use pieces::Simplex;
 use std::alloc::Global;
 use tet_slots::Slots;
 
@@ -55,8 +54,8 @@ pub(crate) fn moved_faces(
 fn push_risen(moved: &mut Vec<Face>, face: Face, u: u32, v: u32) -> Result<(), Memory>
     ensures { OnOk result (triples_of moved.new.items ≡ triples_of moved.old.items ++ map rising (put_in u v (face.0 ∷ []))) }
 {
-    if !face.has_corner(v) {
-        moved.push(face.with_corner(u, v).rising())?;
+    if !face.has(v) {
+        moved.push(face.subst(u, v).rising())?;
     }
     Ok(())
 }

@@ -12,7 +12,6 @@ ghost use Rattle.tet_slots.specs.Searches.{numbers_of};
 
 use grid::{Face, Memory};
 use mesh_types::Cut;
-use pieces::Simplex;
 use std::alloc::Global;
 use tet_slots::Slots;
 use tracked::Tracked;
@@ -64,7 +63,7 @@ fn push_having(touched: &mut Vec<Face>, faces: &[Face], v: u32) -> Result<(), Me
     ensures { OnOk result (touched.new.items ≡ touched.old.items ++ filter (λ f. has f.0 v) faces.now) }
 {
     for face in faces {
-        if face.has_corner(v) {
+        if face.has(v) {
             touched.push(*face)?;
         }
     }

@@ -33,18 +33,10 @@ impl Simplex for Face {
     ghost corners = { λ f. f.0 };
 
     fn has_corner(self, u: u32) -> bool {
-        let Face([a, b, c]) = self;
-        a == u || b == u || c == u
+        self.has(u)
     }
 
     fn with_corner(self, u: u32, k: u32) -> Face {
-        let Face([a, b, c]) = self;
-        Face([put(u, k, a), put(u, k, b), put(u, k, c)])
+        self.subst(u, k)
     }
-}
-
-fn put(u: u32, k: u32, corner: u32) -> u32
-    ensures { result ≡ Rattle.grid.specs.Simplices.put u k corner }
-{
-    if corner == u { k } else { corner }
 }

@@ -14,7 +14,6 @@ use crate::points::point_or_origin;
 use crate::refining::count_of;
 use grid::{Face, Point};
 use mesh_types::{Lists, Try};
-use pieces::Simplex;
 
 // ---- Box
 // Whether b is at this end of an axis, if a is.
@@ -102,7 +101,7 @@ fn faces_at_edge(faces: &[Face], u: u32, v: u32) -> usize
 {
     faces
         .iter()
-        .filter(|face| face.has_corner(u) && face.has_corner(v))
+        .filter(|face| face.has(u) && face.has(v))
         .count()
 }
 
@@ -146,7 +145,7 @@ pub(crate) fn passes_rim(mesh: &Lists, attempt: Try) -> bool
 fn faces_at(faces: &[Face], u: u32) -> usize
     ensures { result ≡ count_by (λ t. has t u) (triples_of faces.now) }
 {
-    faces.iter().filter(|face| face.has_corner(u)).count()
+    faces.iter().filter(|face| face.has(u)).count()
 }
 
 // Whether some face has both u and v, if one has u.
@@ -161,10 +160,10 @@ fn falls_on_another(faces: &[Face], face: Face, u: u32, v: u32) -> bool
     ensures yes { result ≡ true → FallsOnAnother (triples_of faces.now) u v face.0 }
     ensures no { result ≡ false → ¬ FallsOnAnother (triples_of faces.now) u v face.0 }
 {
-    if !face.has_corner(u) {
+    if !face.has(u) {
         return false;
     }
-    if face.has_corner(v) {
+    if face.has(v) {
         return false;
     }
     is_among(moved(face, u, v), faces)
@@ -174,7 +173,7 @@ fn falls_on_another(faces: &[Face], face: Face, u: u32, v: u32) -> bool
 fn moved(face: Face, u: u32, v: u32) -> Face
     ensures { result.0 ≡ rising (replaced u v face.0) }
 {
-    face.with_corner(u, v).rising()
+    face.subst(u, v).rising()
 }
 
 // Whether none of the faces falls on another.

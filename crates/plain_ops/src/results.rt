@@ -21,7 +21,7 @@ use cutting_rule::sort_faces_once;
 use grid::{Face, Memory, Point, Tet};
 use items::Items;
 use mesh_types::{Cut, Lists, Try};
-use pieces::{Simplex, is_touched};
+use pieces::is_touched;
 use std::alloc::Global;
 
 /// The mesh after a try, the tetrahedra that are gone from it and the new ones.
@@ -185,7 +185,7 @@ fn moved(alloc: Global, faces: &[Face], u: u32, k: u32) -> Result<Vec<Face>, Mem
 {
     let mut all = Vec::new(alloc);
     for face in faces {
-        all.push(face.with_corner(u, k).rising())?;
+        all.push(face.subst(u, k).rising())?;
     }
     Ok(all)
 }
@@ -210,7 +210,7 @@ fn faces_off(alloc: Global, faces: &[Face], u: u32, v: u32) -> Result<Vec<Face>,
     ensures { IfOk result (λ w. triples_of w.items ≡ filter (λ t. not (has t u && has t v)) (triples_of faces.now)) }
 {
     let mut found = Vec::from_slice(alloc, faces)?;
-    found.retain(|face| !(face.has_corner(u) && face.has_corner(v)));
+    found.retain(|face| !(face.has(u) && face.has(v)));
     Ok(found)
 }
 

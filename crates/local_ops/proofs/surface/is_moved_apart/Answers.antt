@@ -4,7 +4,7 @@ use Rattle.grid.specs.Simplices.{has, same_triple}
 use Rattle.mesh_store.specs.Parts.{mesh_in}
 use Rattle.local_ops.proofs.surface.is_moved_apart.Goals as goal
 
-pub returns-else-has_corner : goal.returns-else-has_corner
-returns-else-has_corner c =
-    let e : has c.args.face.0 c.args.v ≡ false = sym c.has_corner.ensures ∙ c.if-has_corner.false in
+pub returns-else-has : goal.returns-else-has
+returns-else-has c =
+    let e : has c.args.face.0 c.args.v ≡ false = sym c.has.ensures.corner ∙ c.if-has.false in
     rw e (ap not (c.is_tracked.ensures ∙ ap (λ (t : List ℕ). list_any (same_triple t) (mesh_in c.args.store.now.parts).tracked) c.moved.ensures))
