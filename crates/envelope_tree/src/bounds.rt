@@ -6,7 +6,7 @@ ghost use Rattle.grid.specs.Boxes.{IsUpTo, IsInBox, IsTriInBox};
 ghost use Rattle.envelope_tree.specs.Bounds.{Spans, Encloses, Widens, WidensAll, IsInGrid, AreInGrid};
 ghost use Rattle.envelope_tree.specs.Gaps.{gap_of, sq_gap_of};
 
-use crate::distance::{outside, scaled, sum_of_squares};
+use crate::distance::{at_scale, outside, sum_of_squares};
 use grid::{Point, Tri};
 
 /// The whole numbers from `low` to `high`.
@@ -55,7 +55,11 @@ impl Interval {
         ensures value { result ≡ gap_of p scale self }
         ensures within { IsWithin (2 ^ 25) result }
     {
-        outside(p as i64, scaled(self.low, scale), scaled(self.high, scale))
+        outside(
+            p as i64,
+            at_scale(self.low, scale),
+            at_scale(self.high, scale),
+        )
     }
 }
 

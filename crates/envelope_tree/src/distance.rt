@@ -6,7 +6,7 @@ ghost use Rattle.grid.specs.Boxes.{IsUpTo};
 ghost use Rattle.envelope_tree.specs.Gaps.{outside_of};
 
 /// A coordinate at a scale.
-pub fn scaled(n: i32, scale: i64) -> i64
+pub fn at_scale(n: i32, scale: i64) -> i64
     requires n_in { IsUpTo largest_side n }
     requires scale_in { IsWithin (2 ^ 6) scale }
     ensures value { result ≡ scale *ℤ n }

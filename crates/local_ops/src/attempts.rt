@@ -11,7 +11,7 @@ ghost use Rattle.tet_slots.specs.Searches.{numbers_of};
 
 use crate::before::{Before, near_slots, read};
 use crate::changing::change;
-use crate::foreseeing::{Sight, foreseen};
+use crate::foreseeing::{Sight, foresee};
 use crate::judging::judge;
 use crate::refusals::refusal;
 use envelope_tree::Envelope;
@@ -128,7 +128,7 @@ fn make(
     ensures side { store.new.side ≡ store.old.side }
 {
     let near = near_slots(alloc, store.slots(), attempt)?;
-    match foreseen(alloc, store, attempt, &near, once)? {
+    match foresee(alloc, store, attempt, &near, once)? {
         Sight::Refused(why) => Ok(Verdict::Refused(why)),
         Sight::Better => make_so(alloc, store, env, e, attempt, near, true),
         Sight::Unseen => make_so(alloc, store, env, e, attempt, near, false),

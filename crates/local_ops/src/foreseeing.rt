@@ -36,7 +36,7 @@ pub(crate) enum Sight {
 
 /// What is seen of a try that is not refused before. `near` are the slots that it may kill, and `once`
 /// says that no oriented face of the mesh occurs twice.
-pub(crate) fn foreseen(
+pub(crate) fn foresee(
     alloc: Global,
     store: &Store,
     attempt: Try,
@@ -68,7 +68,7 @@ fn split_seen(store: &Store, u: u32, v: u32, near: &[u32], once: bool) -> Sight
     ensures { (triangles : List Tri) (e : ℕ) → IsSight (setting triangles e store.now.side) (mesh_in store.now.parts) (Try.Split u v) result }
 {
     let at = midpoint(store.slots().point(u), store.slots().point(v));
-    seen(store, Try::Split(u, v), near, at, once)
+    sight_at(store, Try::Split(u, v), near, at, once)
 }
 
 fn shift_seen(
@@ -87,7 +87,7 @@ fn shift_seen(
     ensures { (triangles : List Tri) (e : ℕ) → IfOk result (IsSight (setting triangles e store.now.side) (mesh_in store.now.parts) (Try.Shift u way)) }
 {
     let at = target(alloc, store, u, way)?;
-    Ok(seen(store, Try::Shift(u, way), near, at, once))
+    Ok(sight_at(store, Try::Shift(u, way), near, at, once))
 }
 
 fn collapse_seen(
@@ -106,14 +106,14 @@ fn collapse_seen(
     ensures { (triangles : List Tri) (e : ℕ) → IfOk result (IsSight (setting triangles e store.now.side) (mesh_in store.now.parts) (Try.Collapse u v)) }
 {
     let at = store.slots().point(v);
-    match seen(store, Try::Collapse(u, v), near, at, false) {
+    match sight_at(store, Try::Collapse(u, v), near, at, false) {
         Sight::Refused(why) => Ok(Sight::Refused(why)),
         Sight::Better | Sight::Unseen => {
             if !once {
                 return Ok(Sight::Unseen);
             }
             let single = are_apart(alloc, store.slots(), near, u, v)?;
-            Ok(seen(store, Try::Collapse(u, v), near, at, single))
+            Ok(sight_at(store, Try::Collapse(u, v), near, at, single))
         }
     }
 }
@@ -155,7 +155,7 @@ fn face_swap_seen(
 
 /// What is seen of a try whose new corners are at this point. `single` says that no oriented face of its
 /// new tetrahedra would occur twice.
-fn seen(store: &Store, attempt: Try, near: &[u32], at: Point, single: bool) -> Sight
+fn sight_at(store: &Store, attempt: Try, near: &[u32], at: Point, single: bool) -> Sight
     requires sound { IsSoundStore store.now.side store.now.parts }
     requires positive { AllPositive (mesh_in store.now.parts) }
     requires near { near.now ≡ numbers_of (may_go attempt) 0 store.now.parts.slots }

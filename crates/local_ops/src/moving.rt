@@ -66,15 +66,15 @@ fn det_with(slots: &Slots, tet: Tet, u: u32, at: Point) -> i128
 {
     let Tet([a, b, c, d]) = tet;
     det(
-        moved(slots, a, u, at),
-        moved(slots, b, u, at),
-        moved(slots, c, u, at),
-        moved(slots, d, u, at),
+        point_with(slots, a, u, at),
+        point_with(slots, b, u, at),
+        point_with(slots, c, u, at),
+        point_with(slots, d, u, at),
     )
 }
 
 /// The point of a corner, where u is at the given one.
-fn moved(slots: &Slots, corner: u32, u: u32, at: Point) -> Point
+fn point_with(slots: &Slots, corner: u32, u: u32, at: Point) -> Point
     requires in_box { All (IsInBox largest_side) slots.now.points }
     requires within { IsInBox largest_side at }
     requires there { corner < length slots.now.points }
@@ -146,9 +146,9 @@ fn energy_with(slots: &Slots, tet: Tet, u: u32, at: Point) -> u128
 {
     let Tet([a, b, c, d]) = tet;
     energy(
-        moved(slots, a, u, at),
-        moved(slots, b, u, at),
-        moved(slots, c, u, at),
-        moved(slots, d, u, at),
+        point_with(slots, a, u, at),
+        point_with(slots, b, u, at),
+        point_with(slots, c, u, at),
+        point_with(slots, d, u, at),
     )
 }

@@ -24,7 +24,7 @@ pub(crate) fn target(alloc: Global, store: &Store, u: u32, way: u8) -> Result<Po
     ensures { IfOk result (λ p. p ≡ target (nat_abs store.now.side) (mesh_in store.now.parts) u way) }
 {
     let around = neighbours(alloc, store, u)?;
-    Ok(moved(store, &around, u, way))
+    Ok(destination(store, &around, u, way))
 }
 
 /// The points, other than u, of the tetrahedra that have u.
@@ -63,15 +63,15 @@ fn push_corners(found: &mut Vec<u32>, tet: Tet, u: u32) -> Result<(), Memory>
 }
 
 /// Where u goes between these points.
-fn moved(store: &Store, around: &[u32], u: u32, way: u8) -> Point
+fn destination(store: &Store, around: &[u32], u: u32, way: u8) -> Point
     requires u_there { u < length store.now.parts.points }
     requires there { All (λ w. w < length store.now.parts.points) around.now }
     requires some { 0 < length around.now }
     requires few { length around.now ≤ most_points }
     ensures { result ≡ moved_to (nat_abs store.now.side) store.now.parts.points u around.now way }
 {
-    let sum = added(store.slots(), around);
-    moved_from(
+    let sum = sum_of(store.slots(), around);
+    destination_from(
         store.slots().point(u),
         sum,
         around.len() as u32,
@@ -81,7 +81,7 @@ fn moved(store: &Store, around: &[u32], u: u32, way: u8) -> Point
 }
 
 /// Where a point goes between so many points of this sum.
-fn moved_from(from: Point, sum: Sum, count: u32, side: i32, way: u8) -> Point
+fn destination_from(from: Point, sum: Sum, count: u32, side: i32, way: u8) -> Point
     requires from_in { IsInBox largest_side from }
     requires some { 0 < count }
     requires few { count ≤ most_points }
@@ -93,9 +93,9 @@ fn moved_from(from: Point, sum: Sum, count: u32, side: i32, way: u8) -> Point
       z = shifted_to (nat_abs side) way from.z (mean_of sum.z count);
     } }
 {
-    let x = shifted(from.x, mean(sum.x, count), side, way);
-    let y = shifted(from.y, mean(sum.y, count), side, way);
-    let z = shifted(from.z, mean(sum.z, count), side, way);
+    let x = shift_coordinate(from.x, mean(sum.x, count), side, way);
+    let y = shift_coordinate(from.y, mean(sum.y, count), side, way);
+    let z = shift_coordinate(from.z, mean(sum.z, count), side, way);
     Point { x, y, z }
 }
 
@@ -107,7 +107,7 @@ struct Sum {
     z: i64,
 }
 
-fn added(slots: &Slots, around: &[u32]) -> Sum
+fn sum_of(slots: &Slots, around: &[u32]) -> Sum
     requires there { All (λ w. w < length slots.now.points) around.now }
     requires in_box { All (IsInBox largest_side) slots.now.points }
     requires few { length around.now ≤ most_points }
@@ -142,10 +142,10 @@ fn mean(sum: i64, count: u32) -> i32
     ensures value { result ≡ mean_of sum count }
     ensures within { IsUpTo largest_side result }
 {
-    rounded(sum, count as i64) as i32
+    round_quotient(sum, count as i64) as i32
 }
 
-fn rounded(sum: i64, count: i64) -> i64
+fn round_quotient(sum: i64, count: i64) -> i64
     requires sum_in { IsUpTo (2 ^ 38) sum }
     requires some { pos 1 ≤ℤ count }
     requires few { count ≤ℤ pos most_points }
@@ -155,7 +155,7 @@ fn rounded(sum: i64, count: i64) -> i64
 }
 
 /// Where a coordinate goes.
-fn shifted(from: i32, mean: i32, side: i32, way: u8) -> i32
+fn shift_coordinate(from: i32, mean: i32, side: i32, way: u8) -> i32
     requires from_in { IsUpTo largest_side from }
     requires mean_in { IsUpTo largest_side mean }
     requires side_low { pos 0 ≤ℤ side }

@@ -104,11 +104,11 @@ fn are_moved_apart(store: &Store, faces: &[Face], u: u32, v: u32) -> bool
 fn is_moved_apart(store: &Store, face: Face, u: u32, v: u32) -> bool
     ensures { result ≡ is_moved_apart (mesh_in store.now.parts).tracked u v face.0 }
 {
-    face.has(v) || !is_tracked(store, moved(face, u, v))
+    face.has(v) || !is_tracked(store, subst_rising(face, u, v))
 }
 
 /// The face with v in place of u, in rising order.
-fn moved(face: Face, u: u32, v: u32) -> Face
+fn subst_rising(face: Face, u: u32, v: u32) -> Face
     ensures { result.0 ≡ rising (replaced u v face.0) }
 {
     face.subst(u, v).rising()

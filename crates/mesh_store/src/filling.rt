@@ -13,7 +13,7 @@ use tet_slots::Slots;
 use tracked::Tracked;
 
 /// The points and the tetrahedra, all live.
-pub(crate) fn filled(alloc: Global, mesh: &Lists) -> Result<Slots, Memory>
+pub(crate) fn fill_slots(alloc: Global, mesh: &Lists) -> Result<Slots, Memory>
     requires points_few { length mesh.now.points ≤ most_points }
     requires tets_few { length mesh.now.tets ≤ most_made }
     requires corners { All (λ t. IsTet (length mesh.now.points) t.0) mesh.now.tets }

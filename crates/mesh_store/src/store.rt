@@ -60,7 +60,7 @@ impl Store {
         ensures view { IfOk result (λ s. s ≡ record { parts = parts_from mesh.now; at_begin = None; side = side }) }
         ensures mesh { IfOk result (λ s. mesh_in s.parts ≡ mesh_of mesh.now) }
     {
-        let mut slots = filling::filled(alloc, mesh)?;
+        let mut slots = filling::fill_slots(alloc, mesh)?;
         slots.settle()?;
         let tracked = filling::tracking(alloc, mesh.tracked.as_slice(), mesh.points.len())?;
         Ok(Store {

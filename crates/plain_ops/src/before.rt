@@ -166,11 +166,11 @@ fn falls_on_another(faces: &[Face], face: Face, u: u32, v: u32) -> bool
     if face.has(v) {
         return false;
     }
-    is_among(moved(face, u, v), faces)
+    is_among(subst_rising(face, u, v), faces)
 }
 
 // The face with v in place of u, in rising order.
-fn moved(face: Face, u: u32, v: u32) -> Face
+fn subst_rising(face: Face, u: u32, v: u32) -> Face
     ensures { result.0 ≡ rising (replaced u v face.0) }
 {
     face.subst(u, v).rising()

@@ -108,7 +108,7 @@ fn made_with(made: u32, fresh: &[Tet]) -> Result<u32, Memory>
 
 // ---- the split of an edge
 // The tetrahedra that a cut touches.
-fn touched(alloc: Global, cuts: &[Cut], tets: &[Tet]) -> Result<Vec<Tet>, Memory>
+fn touched_tets(alloc: Global, cuts: &[Cut], tets: &[Tet]) -> Result<Vec<Tet>, Memory>
     ensures { IfOk result (λ v. corners_of v.items ≡ filter (is_touched cuts.now) (corners_of tets.now)) }
 {
     let mut found = Vec::from_slice(alloc, tets)?;
@@ -126,7 +126,7 @@ fn split(alloc: Global, mesh: &Lists, u: u32, v: u32) -> Result<PlainResult, Mem
     let at = midpoint(point_or_origin(points, u), point_or_origin(points, v));
     let cuts = [Cut { u, v, at }];
     let after = refine_plain(alloc, mesh, &cuts)?;
-    let gone = touched(alloc, &cuts, tets)?;
+    let gone = touched_tets(alloc, &cuts, tets)?;
     let fresh = pieces_of(alloc, &cuts, count_of(points), tets)?;
     Ok(PlainResult {
         mesh: after,
@@ -161,7 +161,7 @@ fn having_only(alloc: Global, tets: &[Tet], u: u32, v: u32) -> Result<Vec<Tet>, 
 }
 
 // The tetrahedra with k in place of u.
-fn replaced(alloc: Global, tets: &[Tet], u: u32, k: u32) -> Result<Vec<Tet>, Memory>
+fn subst_tets(alloc: Global, tets: &[Tet], u: u32, k: u32) -> Result<Vec<Tet>, Memory>
     ensures { IfOk result (λ v. corners_of v.items ≡ map (replaced u k) (corners_of tets.now)) }
 {
     let mut all = Vec::new(alloc);
@@ -172,15 +172,15 @@ fn replaced(alloc: Global, tets: &[Tet], u: u32, k: u32) -> Result<Vec<Tet>, Mem
 }
 
 // The faces with k in place of u, in rising order, each once.
-fn retracked(alloc: Global, faces: &[Face], u: u32, k: u32) -> Result<Vec<Face>, Memory>
+fn retrack(alloc: Global, faces: &[Face], u: u32, k: u32) -> Result<Vec<Face>, Memory>
     ensures { IfOk result (λ v. triples_of v.items ≡ retracked u k (triples_of faces.now)) }
 {
-    let mut all = moved(alloc, faces, u, k)?;
+    let mut all = subst_faces(alloc, faces, u, k)?;
     sort_faces_once(&mut all);
     Ok(all)
 }
 
-fn moved(alloc: Global, faces: &[Face], u: u32, k: u32) -> Result<Vec<Face>, Memory>
+fn subst_faces(alloc: Global, faces: &[Face], u: u32, k: u32) -> Result<Vec<Face>, Memory>
     ensures { IfOk result (λ v. triples_of v.items ≡ map (λ t. Rattle.grid.specs.Simplices.rising (replaced u k t)) (triples_of faces.now)) }
 {
     let mut all = Vec::new(alloc);
@@ -199,8 +199,8 @@ fn shift(alloc: Global, mesh: &Lists, u: u32, at: Point) -> Result<PlainResult, 
     let tets = mesh.tets.as_slice();
     let kept = lacking(alloc, tets, u)?;
     let gone = having(alloc, tets, u)?;
-    let fresh = replaced(alloc, &gone, u, k)?;
-    let tracked = retracked(alloc, mesh.tracked.as_slice(), u, k)?;
+    let fresh = subst_tets(alloc, &gone, u, k)?;
+    let tracked = retrack(alloc, mesh.tracked.as_slice(), u, k)?;
     exchange(alloc, mesh, &[at], kept, gone, fresh, tracked)
 }
 
@@ -221,8 +221,8 @@ fn collapse(alloc: Global, mesh: &Lists, u: u32, v: u32) -> Result<PlainResult, 
     let kept = lacking(alloc, tets, u)?;
     let gone = having(alloc, tets, u)?;
     let changed = having_only(alloc, tets, u, v)?;
-    let fresh = replaced(alloc, &changed, u, v)?;
+    let fresh = subst_tets(alloc, &changed, u, v)?;
     let faces = faces_off(alloc, mesh.tracked.as_slice(), u, v)?;
-    let tracked = retracked(alloc, &faces, u, v)?;
+    let tracked = retrack(alloc, &faces, u, v)?;
     exchange(alloc, mesh, &[], kept, gone, fresh, tracked)
 }

@@ -132,10 +132,10 @@ fn mean_of(sum: i64, count: u32) -> i32
     ensures value { result ≡ int_div_euclid (pos 2 *ℤ sum +ℤ pos count) (pos (2 * count)) }
     ensures within { IsUpTo largest_side result }
 {
-    rounded(sum, count as i64) as i32
+    round_quotient(sum, count as i64) as i32
 }
 
-fn rounded(sum: i64, count: i64) -> i64
+fn round_quotient(sum: i64, count: i64) -> i64
     requires sum_in { IsUpTo (2 ^ 38) sum }
     requires some { pos 1 ≤ℤ count }
     requires few { count ≤ℤ pos most_points }
@@ -156,7 +156,7 @@ fn mean_along(axis: Axis, points: &[Point], ws: &[u32]) -> i32
 }
 
 // Where a coordinate goes: at the ends of the box it stays.
-fn shifted(from: i32, mean: i32, side: i32, way: u8) -> i32
+fn shift_coordinate(from: i32, mean: i32, side: i32, way: u8) -> i32
     requires from_in { IsUpTo largest_side from }
     requires mean_in { IsUpTo largest_side mean }
     requires side_low { pos 0 ≤ℤ side }
@@ -179,7 +179,7 @@ fn shifted_along(axis: Axis, points: &[Point], ws: &[u32], side: i32, u: u32, wa
     ensures { result ≡ shifted_to (nat_abs side) way (along axis (point_at points.now u)) (mean_at (λ w. along axis (point_at points.now w)) ws.now) }
 {
     let from = coordinate(axis, points, u);
-    shifted(from, mean_along(axis, points, ws), side, way)
+    shift_coordinate(from, mean_along(axis, points, ws), side, way)
 }
 
 /// The mean of the neighbours of u (way 0), or the point half of the way there (1).

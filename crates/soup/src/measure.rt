@@ -18,7 +18,7 @@ pub struct Measure {
 }
 
 /// Measures a soup.
-pub fn measured(raw: &Raw) -> Measure
+pub fn measure_of(raw: &Raw) -> Measure
     requires { All IsVertex raw.now.vertices }
     ensures { IsMeasureOf raw.now result }
 {

@@ -5,7 +5,7 @@ ghost use Rattle.soup.specs.Limits.{IsVertex, IsFaceBelow};
 ghost use Rattle.soup.specs.Ranges.{IsMeasureOf};
 ghost use Rattle.soup.specs.Placement.{extent, room, side, placed_in, placed, IsLeastSide, IsInItsBox};
 
-use crate::measure::{Measure, measured, start_of};
+use crate::measure::{Measure, measure_of, start_of};
 use crate::moves::placed_triangles;
 use crate::raw::{Raw, Soup};
 use crate::sides::side_for;
@@ -68,7 +68,7 @@ pub fn place(alloc: Global, raw: &Raw, e: u32, cells: u32) -> Result<Soup, Place
     ensures inside { IfOk result (λ soup. IsInItsBox e (side raw.now e cells) soup) }
     ensures too_wide { (x : ℕ) → IsErrOf result (PlaceIssue.TooWide x) ↔ ((largest_side < room raw.now e) × (x ≡ extent raw.now)) }
 {
-    let measure = measured(raw);
+    let measure = measure_of(raw);
     let room = measure.extent + 2 * e as u64 + 4;
     if room > MOST_ROOM {
         return Err(PlaceIssue::TooWide(measure.extent));

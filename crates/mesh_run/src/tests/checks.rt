@@ -30,7 +30,7 @@ fn checked(
 }
 
 /// The text with the first occurrence of a part replaced.
-fn replaced(alloc: Global, text: &[u8], part: &[u8], by: &[u8]) -> Result<Vec<u8>, AllocError> {
+fn replace_part(alloc: Global, text: &[u8], part: &[u8], by: &[u8]) -> Result<Vec<u8>, AllocError> {
     let mut out = Vec::new(alloc);
     for i in 0..text.len() {
         if let Some(rest) = text[i..].strip_prefix(part) {
@@ -100,8 +100,8 @@ const CHANGES: [Change; 7] = [
 fn changes_are_found(rt: HostRuntime) -> Result<(), Fail> {
     let alloc = rt.alloc();
     for change in &CHANGES {
-        let mesh = replaced(alloc, MESH, change.mesh.0, change.mesh.1)?;
-        let report = replaced(alloc, REPORT, change.report.0, change.report.1)?;
+        let mesh = replace_part(alloc, MESH, change.mesh.0, change.mesh.1)?;
+        let report = replace_part(alloc, REPORT, change.report.0, change.report.1)?;
         let ran = checked(alloc, &CHECK, EMPTY, &mesh, &report)?;
         assert_eq!(rt; ran.status, change.status);
         assert_eq!(rt; ran.out.bytes(), change.line);
@@ -149,7 +149,7 @@ fn decimals_are_units(rt: HostRuntime) -> Result<(), Fail> {
     assert!(rt; contains(report, b"\nbudget 0\ndigits 1\nbox 16\n"));
     let good = checked(alloc, &DECIMAL_CHECK, DECIMAL_CUBE, mesh, report)?;
     assert_eq!(rt; good.out.bytes(), b"good\n".as_slice());
-    let other = replaced(alloc, report, b"digits 1", b"digits 2")?;
+    let other = replace_part(alloc, report, b"digits 1", b"digits 2")?;
     let bad = checked(alloc, &DECIMAL_CHECK, DECIMAL_CUBE, mesh, &other)?;
     assert_eq!(rt; bad.status, 1);
     assert_eq!(rt; bad.out.bytes(), b"bad header\n".as_slice());

@@ -25,8 +25,8 @@ point-at-requires c =
     let v = c.args.store.now in
     subst (λ (ps : List Point). c.args.v < length ps) (sym c.slots.ensures.points) (collapse_ends (mesh_in v.parts) c.args.u c.args.v (well_formed v.side v.parts c.requires.sound) c.requires.candidate).1
 
-pub seen-requires-clause-aim : goal.seen-requires-clause-aim
-seen-requires-clause-aim c =
+pub sight_at-requires-clause-aim : goal.sight_at-requires-clause-aim
+sight_at-requires-clause-aim c =
     let v = c.args.store.now in
     let there = (collapse_ends (mesh_in v.parts) c.args.u c.args.v (well_formed v.side v.parts c.requires.sound) c.requires.candidate).1 in
     let is : c.point-at.result ≡ point_at v.parts.points c.args.v = c.point-at.ensures ∙ ap (λ (ps : List Point). point_at ps c.args.v) c.slots.ensures.points in
@@ -39,8 +39,8 @@ are_apart-requires c =
     subst (λ (ss : List Slot). All (λ i. i < length ss) c.args.near.now) (sym c.slots-in-Better.ensures.slots)
     (subst (All (λ i. i < length v.parts.slots)) (sym c.requires.near) (numbers-there (may_go (Collapse c.args.u c.args.v)) v.parts.slots))
 
-pub seen-requires-in-Better : goal.seen-requires-in-Better
-seen-requires-in-Better c =
+pub sight_at-requires-in-Better : goal.sight_at-requires-in-Better
+sight_at-requires-in-Better c =
     let v = c.args.store.now in
     let there = (collapse_ends (mesh_in v.parts) c.args.u c.args.v (well_formed v.side v.parts c.requires.sound) c.requires.candidate).1 in
     let at : c.point-at.result ≡ point_at v.parts.points c.args.v = c.point-at.ensures ∙ ap (λ (ps : List Point). point_at ps c.args.v) c.slots.ensures.points in

@@ -6,12 +6,12 @@ use Rattle.local_ops.proofs.Aims.{aim-shift}
 use Rattle.local_ops.proofs.Once.{single-shift}
 use Rattle.local_ops.proofs.foreseeing.shift_seen.Goals as goal
 
-pub seen-requires-clause-aim : goal.seen-requires-clause-aim
-seen-requires-clause-aim c =
+pub sight_at-requires-clause-aim : goal.sight_at-requires-clause-aim
+sight_at-requires-clause-aim c =
     let v = c.args.store.now in
     aim-shift v.side v.parts c.requires.sound c.args.u c.args.way c.in_ok-at.at c.in_ok-at.ensures
 
-pub seen-requires-clause-single : goal.seen-requires-clause-single
-seen-requires-clause-single c =
+pub sight_at-requires-clause-single : goal.sight_at-requires-clause-single
+sight_at-requires-clause-single c =
     let v = c.args.store.now in
     λ o. single-shift (mesh_in v.parts) (well_formed v.side v.parts c.requires.sound) (c.requires.once o) c.args.u (target (nat_abs v.side) (mesh_in v.parts) c.args.u c.args.way)

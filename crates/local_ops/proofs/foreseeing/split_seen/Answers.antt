@@ -19,14 +19,14 @@ point-requires-2 c =
     let v = c.args.store.now in
     subst (λ (ps : List Point). c.args.v < length ps) (sym c.slots-2.ensures.points) (split_ends (mesh_in v.parts) c.args.u c.args.v (well_formed v.side v.parts c.requires.sound) c.requires.candidate).1
 
-pub seen-requires-clause-aim : goal.seen-requires-clause-aim
-seen-requires-clause-aim c =
+pub sight_at-requires-clause-aim : goal.sight_at-requires-clause-aim
+sight_at-requires-clause-aim c =
     let v = c.args.store.now in
     let p : c.point.result ≡ point_at v.parts.points c.args.u = c.point.ensures ∙ ap (λ (ps : List Point). point_at ps c.args.u) c.slots.ensures.points in
     let q : c.point-2.result ≡ point_at v.parts.points c.args.v = c.point-2.ensures ∙ ap (λ (ps : List Point). point_at ps c.args.v) c.slots-2.ensures.points in
     aim-split v.side v.parts c.requires.sound c.args.u c.args.v c.midpoint-at.result (c.midpoint-at.ensures ∙ (λ i. midpoint_floored (p i) (q i)))
 
-pub seen-requires-clause-single : goal.seen-requires-clause-single
-seen-requires-clause-single c =
+pub sight_at-requires-clause-single : goal.sight_at-requires-clause-single
+sight_at-requires-clause-single c =
     let v = c.args.store.now in
     λ o. single-split (mesh_in v.parts) (well_formed v.side v.parts c.requires.sound) (c.requires.once o) c.args.u c.args.v c.requires.positive c.requires.candidate

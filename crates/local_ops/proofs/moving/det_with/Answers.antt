@@ -9,4 +9,4 @@ returns c =
     let fits : SFits w128 c.det.result = search rules in
     to_z-of_z fits
     ∙ (c.det.ensures
-    ∙ ((λ j. det (c.moved.ensures.value j) (c.moved-2.ensures.value j) (c.moved-3.ensures.value j) (c.moved-4.ensures.value j)) ∙ sym (det_with-four c.args.slots.now.points c.args.u c.args.at c.args.tet.0 c.requires.there.four)))
+    ∙ ((λ j. det (c.point_with.ensures.value j) (c.point_with-2.ensures.value j) (c.point_with-3.ensures.value j) (c.point_with-4.ensures.value j)) ∙ sym (det_with-four c.args.slots.now.points c.args.u c.args.at c.args.tet.0 c.requires.there.four)))

@@ -6,25 +6,25 @@ use Rattle.local_ops.proofs.Ends.{point_end}
 use Rattle.local_ops.proofs.Neighbours.{neighbours-below, neighbours-some, neighbours-few}
 use Rattle.local_ops.proofs.smoothing.target.Goals as goal
 
-pub moved-requires-clause-u_there : goal.moved-requires-clause-u_there
-moved-requires-clause-u_there c =
+pub destination-requires-clause-u_there : goal.destination-requires-clause-u_there
+destination-requires-clause-u_there c =
     let v = c.args.store.now in
     point_end (mesh_in v.parts) c.args.u (well_formed v.side v.parts c.requires.sound) c.requires.there
 
-pub moved-requires-clause-there : goal.moved-requires-clause-there
-moved-requires-clause-there c =
+pub destination-requires-clause-there : goal.destination-requires-clause-there
+destination-requires-clause-there c =
     let v = c.args.store.now in
     subst (All (λ w. w < length v.parts.points)) (sym (c.deref.ensures.value ∙ c.in_ok-around.ensures)) (neighbours-below (mesh_in v.parts) c.args.u (well_formed v.side v.parts c.requires.sound))
 
-pub moved-requires-clause-some : goal.moved-requires-clause-some
-moved-requires-clause-some c =
+pub destination-requires-clause-some : goal.destination-requires-clause-some
+destination-requires-clause-some c =
     let v = c.args.store.now in
     let is : c.deref.result.now ≡ neighbours (mesh_in v.parts) c.args.u = c.deref.ensures.value ∙ c.in_ok-around.ensures in
     let some = neighbours-some (mesh_in v.parts) c.args.u (well_formed v.side v.parts c.requires.sound) c.requires.there in
     omega (arith, ap length is, some)
 
-pub moved-requires-clause-few : goal.moved-requires-clause-few
-moved-requires-clause-few c =
+pub destination-requires-clause-few : goal.destination-requires-clause-few
+destination-requires-clause-few c =
     let v = c.args.store.now in
     let is : c.deref.result.now ≡ neighbours (mesh_in v.parts) c.args.u = c.deref.ensures.value ∙ c.in_ok-around.ensures in
     let few = neighbours-few (mesh_in v.parts) c.args.u (well_formed v.side v.parts c.requires.sound) in

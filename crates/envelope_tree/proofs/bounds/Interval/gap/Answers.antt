@@ -12,5 +12,5 @@ returns-clause-value c =
     kept_is w64 (2 ^ 25) c.outside.result c.outside.ensures.within (lit< tt) ∙ c.outside.ensures.value
     ∙ same_outside
     (widened_is (2 ^ 24) c.args.p (up_to-IsWithin c.args.p c.requires.p_in) (lit< tt) (lit< tt))
-    (kept_is w64 (2 ^ 24) c.scaled.result c.scaled.ensures.within (lit< tt) ∙ c.scaled.ensures.value ∙ ap₂ ◌*ℤ◌ scale low)
-    (kept_is w64 (2 ^ 24) c.scaled-2.result c.scaled-2.ensures.within (lit< tt) ∙ c.scaled-2.ensures.value ∙ ap₂ ◌*ℤ◌ scale high)
+    (kept_is w64 (2 ^ 24) c.at_scale.result c.at_scale.ensures.within (lit< tt) ∙ c.at_scale.ensures.value ∙ ap₂ ◌*ℤ◌ scale low)
+    (kept_is w64 (2 ^ 24) c.at_scale-2.result c.at_scale-2.ensures.within (lit< tt) ∙ c.at_scale-2.ensures.value ∙ ap₂ ◌*ℤ◌ scale high)

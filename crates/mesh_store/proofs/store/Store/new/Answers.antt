@@ -14,14 +14,14 @@ use Rattle.mesh_store.proofs.PieceLemmas.{All-unmap}
 use Rattle.mesh_store.proofs.store.Store.new.Goals as goal
 use Rattle.mesh_store.proofs.store.Store.new.Goals.{After-new}
 
-pub filled-requires-clause-points_few : goal.filled-requires-clause-points_few
-filled-requires-clause-points_few c = c.requires.within.points_few
+pub fill_slots-requires-clause-points_few : goal.fill_slots-requires-clause-points_few
+fill_slots-requires-clause-points_few c = c.requires.within.points_few
 
-pub filled-requires-clause-tets_few : goal.filled-requires-clause-tets_few
-filled-requires-clause-tets_few c = let few = c.requires.within.made_few in omega (arith, few, c.requires.made)
+pub fill_slots-requires-clause-tets_few : goal.fill_slots-requires-clause-tets_few
+fill_slots-requires-clause-tets_few c = let few = c.requires.within.made_few in omega (arith, few, c.requires.made)
 
-pub filled-requires-clause-corners : goal.filled-requires-clause-corners
-filled-requires-clause-corners c = All-unmap (IsTet (length c.args.mesh.now.points)) (λ (t : Tet). t.0) c.args.mesh.now.tets c.requires.well_formed.tets_are
+pub fill_slots-requires-clause-corners : goal.fill_slots-requires-clause-corners
+fill_slots-requires-clause-corners c = All-unmap (IsTet (length c.args.mesh.now.points)) (λ (t : Tet). t.0) c.args.mesh.now.tets c.requires.well_formed.tets_are
 
 pub tracking-requires-clause-triples : goal.tracking-requires-clause-triples
 tracking-requires-clause-triples c =

@@ -5,7 +5,7 @@ use Rattle.grid.specs.Determinants.{point_at, origin}
 use Rattle.grid.specs.Limits.{largest_side}
 use Rattle.local_ops.specs.Smoothing.{IsSumUpTo}
 use Rattle.mesh_types.proofs.ForCallers.{sum-more, IsUpTo-sum}
-use Rattle.local_ops.proofs.smoothing.added.Goals as goal
+use Rattle.local_ops.proofs.smoothing.sum_of.Goals as goal
 
 pub loop-w-preserved : goal.loop-w-preserved
 loop-w-preserved c =

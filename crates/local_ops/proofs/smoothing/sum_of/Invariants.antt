@@ -3,7 +3,7 @@ use Rattle.grid.specs.Determinants.{point_at}
 use Rattle.grid.specs.Limits.{largest_side}
 use Rattle.mesh_types.specs.Results.{sum_at}
 use Rattle.local_ops.specs.Smoothing.{IsSumUpTo}
-use Rattle.local_ops.proofs.smoothing.added.Given as goal
+use Rattle.local_ops.proofs.smoothing.sum_of.Given as goal
 
 abbrev pub invariant-loop-w : goal.invariant-loop-w
 invariant-loop-w l = record {

@@ -3,7 +3,7 @@ use Rattle.std.proofs.lemmas.Fn.{filter_same}
 use Rattle.grid.specs.declared.shapes.Tet.{Tet}
 use Rattle.mesh_types.specs.Refines.{is_touched}
 use Rattle.plain_ops.proofs.Filters.{filtered}
-use Rattle.plain_ops.proofs.results.touched.Goals as goal
+use Rattle.plain_ops.proofs.results.touched_tets.Goals as goal
 
 pub returns : goal.returns
 returns c =

@@ -1,7 +1,7 @@
 use Rattle.std.proofs.Common.{◌≡◌, take, map, [], false}
 use Rattle.grid.specs.Views.{corners_of}
 use Rattle.mesh_store.specs.Parts.{live_slot}
-use Rattle.mesh_store.proofs.filling.filled.Given as goal
+use Rattle.mesh_store.proofs.filling.fill_slots.Given as goal
 
 abbrev pub invariant-loop-point : goal.invariant-loop-point
 invariant-loop-point l = l.slots ≡ record { points = take l.point-index l.point-items; slots = []; forgotten = [] }

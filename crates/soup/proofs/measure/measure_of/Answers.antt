@@ -1,5 +1,5 @@
 use Rattle.soup.proofs.Measures.{measure_is}
-use Rattle.soup.proofs.measure.measured.Goals as goal
+use Rattle.soup.proofs.measure.measure_of.Goals as goal
 
 pub returns : goal.returns
 returns c =

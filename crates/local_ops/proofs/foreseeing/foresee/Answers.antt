@@ -1,4 +1,4 @@
-use Rattle.local_ops.proofs.foreseeing.foreseen.Goals as goal
+use Rattle.local_ops.proofs.foreseeing.foresee.Goals as goal
 
 pub returns-in-Split : goal.returns-in-Split
 returns-in-Split c = rw c.in-Split.is c.split_seen.ensures

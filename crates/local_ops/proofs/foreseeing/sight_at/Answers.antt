@@ -14,7 +14,7 @@ use Rattle.local_ops.specs.Measures.{corners_at}
 use Rattle.local_ops.proofs.Foreseen.{passes-Full, passes-Inverted, fails-Inverted, passes-Worse, fails-Worse}
 use Rattle.local_ops.proofs.InOrder.{passes_more, refused}
 use Rattle.local_ops.proofs.NearSlots.{length-numbers, numbers-there, near-positive_before, near-pass}
-use Rattle.local_ops.proofs.foreseeing.seen.Goals as goal
+use Rattle.local_ops.proofs.foreseeing.sight_at.Goals as goal
 
 pub has_room-requires : goal.has_room-requires
 has_room-requires c =
