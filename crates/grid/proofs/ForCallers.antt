@@ -1,5 +1,5 @@
 -- For callers: members and order of lists, rotations of faces, expressions of vectors, gaps, and the sides of the box.
-pub use Rattle.grid.proofs.Each.{Each-weaker, Each-both, Each-append, Each-flat_map, Each-of_flat_map, Each-face}
+pub use Rattle.grid.proofs.Each.{Each-weaker, Each-both, Each-append, Each-flat_map, Each-of_flat_map, Each-face, Each-tet}
 pub use Rattle.grid.proofs.Replaced.{put-same, put-other, put_cases, same_bools, has_first, has_cases, has_none, has_none_from, has-replaced_new, has-replaced_old, has-replaced_other, replaced-back}
 pub use Rattle.grid.proofs.Rising.{has-rising, above_none, rises_same, rising-Rises, length-rising, AreDifferent-Rises}
 pub use Rattle.grid.proofs.Members.{IsIn, count_by-cons, count_by-cons_yes, count_by-cons_no, count_by-found, count_by-le, count_by-any, count_by-map, count_by-same, any-map}

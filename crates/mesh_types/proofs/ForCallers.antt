@@ -10,7 +10,7 @@ pub use Rattle.mesh_types.proofs.Volume.{IsTri, faces-IsTri, present}
 pub use Rattle.mesh_types.proofs.Step.{point_at-append, point_at-new, once-split}
 pub use Rattle.mesh_types.proofs.Transfer.{HaveSameSums, sums-parted}
 pub use Rattle.mesh_types.proofs.Refinement.{flat_map-flat_map, flat_map-none, sub_all-untouched, Each-map, Each-in_order, cornered_of}
-pub use Rattle.mesh_types.proofs.Kept.{Each-left, IsTet-from, refine-IsTet}
+pub use Rattle.mesh_types.proofs.Kept.{Each-left, Each-right, IsTet-from, refine-IsTet}
 pub use Rattle.mesh_types.proofs.Order.{below_cases, below_trans, below_not, below_or, number-Ordered}
 pub use Rattle.mesh_types.proofs.WellFormed.{below_each, triple_of, rising-IsTriple, IsEdge, refine-well_formed, refine-IsWellFormed}
 pub use Rattle.mesh_types.proofs.TripleSets.{equal_from, equal_to, differ_from, differ_to, ordered_same, is_among, is_among-in_order, is_among-in_order_once, Each-in_order_once, in_order_once-Ordered, in_order_once-of}

@@ -17,18 +17,15 @@ use Rattle.mesh_types.specs.declared.lists.Lists.{Lists}
 use Rattle.mesh_types.specs.Phases.{phase, wanted, wanted_in, wanted_cuts}
 use Rattle.mesh_types.specs.Refines.{refine}
 use Rattle.mesh_types.specs.Views.{mesh_of}
+use Rattle.grid.proofs.ForCallers.{Each-tet}
 use Rattle.cutting_rule.proofs.ForCallers.{length-once, length-wanted_in, wanted_cuts-in}
 
 -- ---- tetrahedra of the code
-each-tet : (P : List ℕ → Type 0) (ts : List Tet) → Each P (corners_of ts) → Each (λ (x : Tet). P x.0) ts
-each-tet P [] h = tt
-each-tet P (x ∷ ts) h = (h.0, each-tet P ts h.1)
-
 pub tets-are : (m : Lists) (points : List Point) (ts : List Tet) → points ≡ m.points → ts ≡ m.tets → IsWellFormed (mesh_of m) → All (λ (x : Tet). IsTet (length points) x.0) ts
 tets-are m points ts e f w =
     subst (λ (ps : List Point). All (λ (x : Tet). IsTet (length ps) x.0) ts) (sym e)
     (subst (All (λ (x : Tet). IsTet (length m.points) x.0)) (sym f)
-    (All-from_recursion (λ (x : Tet). IsTet (length m.points) x.0) m.tets (each-tet (IsTet (length m.points)) m.tets (recursion_from_All (IsTet (length m.points)) (corners_of m.tets) w.tets_are))))
+    (All-from_recursion (λ (x : Tet). IsTet (length m.points) x.0) m.tets (Each-tet (IsTet (length m.points)) m.tets (recursion_from_All (IsTet (length m.points)) (corners_of m.tets) w.tets_are))))
 
 -- ---- few edges are wanted
 length-all : (points : List Point) (t : Tri) (i : ℕ) (tets : List (List ℕ)) → length (flat_map (wanted_in points t i) tets) ≤ 6 * length tets
