@@ -32,7 +32,7 @@ pub(crate) fn push_if(wanted: bool, a: u32, b: u32, into: &mut Vec<Edge>) -> Res
 }
 
 // Both ends as one number, so that a sort compares once.
-fn packed(edge: Edge) -> u64
+fn pack(edge: Edge) -> u64
     ensures { IsPacked 2 edge.0 result }
 {
     let Edge([u, v]) = edge;
@@ -46,7 +46,7 @@ pub fn sort_edges_once(edges: &mut Vec<Edge>)
     edges.sort_unstable_by(
         |a: &Edge, b: &Edge| -> Ordering
             ensures { is_lt result ≡ is_below a.now.0 b.now.0 }
-        { packed(*a).cmp(&packed(*b)) },
+        { pack(*a).cmp(&pack(*b)) },
     );
     edges.dedup();
 }

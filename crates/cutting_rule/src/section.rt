@@ -77,7 +77,7 @@ pub fn push_section(
 }
 
 // The three corners as one number, so that a sort compares once.
-fn packed(face: Face) -> u128
+fn pack(face: Face) -> u128
     ensures { IsPacked 3 face.0 result }
 {
     let Face([a, b, c]) = face;
@@ -92,7 +92,7 @@ pub fn sort_faces_once(faces: &mut Vec<Face>)
     faces.sort_unstable_by(
         |a: &Face, b: &Face| -> Ordering
             ensures { is_lt result ≡ is_below a.now.0 b.now.0 }
-        { packed(*a).cmp(&packed(*b)) },
+        { pack(*a).cmp(&pack(*b)) },
     );
     faces.dedup();
 }

@@ -51,15 +51,15 @@ pub(crate) fn foresee(
     ensures { (triangles : List Tri) (e : ℕ) → IfOk result (IsSight (setting triangles e store.now.side) (mesh_in store.now.parts) attempt) }
 {
     match attempt {
-        Try::Split(u, v) => Ok(split_seen(store, u, v, near, once)),
-        Try::Shift(u, way) => shift_seen(alloc, store, u, way, near, once),
-        Try::Collapse(u, v) => collapse_seen(alloc, store, u, v, near, once),
-        Try::FaceSwap(a, b, c) => face_swap_seen(alloc, store, a, b, c, near, once),
+        Try::Split(u, v) => Ok(see_split(store, u, v, near, once)),
+        Try::Shift(u, way) => see_shift(alloc, store, u, way, near, once),
+        Try::Collapse(u, v) => see_collapse(alloc, store, u, v, near, once),
+        Try::FaceSwap(a, b, c) => see_face_swap(alloc, store, a, b, c, near, once),
         Try::EdgeSwap(..) => Ok(Sight::Unseen),
     }
 }
 
-fn split_seen(store: &Store, u: u32, v: u32, near: &[u32], once: bool) -> Sight
+fn see_split(store: &Store, u: u32, v: u32, near: &[u32], once: bool) -> Sight
     requires sound { IsSoundStore store.now.side store.now.parts }
     requires candidate { is_candidate (mesh_in store.now.parts).tets (Try.Split u v) ≡ true }
     requires positive { AllPositive (mesh_in store.now.parts) }
@@ -71,7 +71,7 @@ fn split_seen(store: &Store, u: u32, v: u32, near: &[u32], once: bool) -> Sight
     sight_at(store, Try::Split(u, v), near, at, once)
 }
 
-fn shift_seen(
+fn see_shift(
     alloc: Global,
     store: &Store,
     u: u32,
@@ -90,7 +90,7 @@ fn shift_seen(
     Ok(sight_at(store, Try::Shift(u, way), near, at, once))
 }
 
-fn collapse_seen(
+fn see_collapse(
     alloc: Global,
     store: &Store,
     u: u32,
@@ -118,7 +118,7 @@ fn collapse_seen(
     }
 }
 
-fn face_swap_seen(
+fn see_face_swap(
     alloc: Global,
     store: &Store,
     a: u32,

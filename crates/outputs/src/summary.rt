@@ -56,7 +56,7 @@ fn inserted_again(second: &Option<Second>) -> usize
 }
 
 // How many triangles are rolled back at last.
-fn left_out(outcomes: &[Outcome], second: &Option<Second>) -> usize
+fn count_left_out(outcomes: &[Outcome], second: &Option<Second>) -> usize
     ensures { result ≡ left_out outcomes.now second.now }
 {
     match second {
@@ -119,7 +119,7 @@ fn put_outcomes(out: &mut Vec<u8>, made: &Meshed) -> Result<(), Memory>
     ensures { OnOk result (out.new.items ≡ out.old.items ++ outcome_counts made.now) }
 {
     let inserted = count_inserted(made.outcomes.as_slice());
-    let left_out = left_out(made.outcomes.as_slice(), &made.second);
+    let left_out = count_left_out(made.outcomes.as_slice(), &made.second);
     put(out, b" inserted ")?;
     put_sum(out, inserted, inserted_again(&made.second))?;
     put(out, b" rolled-back ")?;

@@ -30,7 +30,7 @@ pub struct PlainInsert {
 }
 
 // The mesh as it was, and the defect.
-fn rolled_back(alloc: Global, mesh: &Lists, defect: Defect) -> Result<PlainInsert, Memory>
+fn roll_back(alloc: Global, mesh: &Lists, defect: Defect) -> Result<PlainInsert, Memory>
     ensures { IfOk result (λ r. r ≡ record { mesh = mesh.now; outcome = Outcome.RolledBack defect }) }
 {
     let copy = copy_of(alloc, mesh)?;
@@ -84,7 +84,7 @@ fn settle(
     let found = first_defect(alloc, mesh, &cut, triangle, &faces, env, t, e)?;
     match found {
         Some(defect) => {
-            let undone = rolled_back(alloc, mesh, defect)?;
+            let undone = roll_back(alloc, mesh, defect)?;
             Ok(undone)
         }
         None => {
@@ -121,14 +121,14 @@ pub fn insert_plain(
 {
     let tri = env.triangle(t);
     if plane_of(tri).is_none() {
-        let undone = rolled_back(alloc, mesh, Defect::Degenerate)?;
+        let undone = roll_back(alloc, mesh, Defect::Degenerate)?;
         return Ok(undone);
     }
     let triangle = CuttingTriangle::new(&tri);
     let found = cut(alloc, mesh, &triangle)?;
     match found {
         None => {
-            let undone = rolled_back(alloc, mesh, Defect::Full)?;
+            let undone = roll_back(alloc, mesh, Defect::Full)?;
             Ok(undone)
         }
         Some(cut) => settle(alloc, mesh, cut, &triangle, env, t, e),

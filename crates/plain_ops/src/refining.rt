@@ -38,7 +38,7 @@ fn push_untouched(all: &mut Vec<Tet>, cuts: &[Cut], tet: Tet) -> Result<(), Memo
 }
 
 // The tetrahedra that no cut touches.
-fn untouched(alloc: Global, cuts: &[Cut], tets: &[Tet]) -> Result<Vec<Tet>, Memory>
+fn untouched_tets(alloc: Global, cuts: &[Cut], tets: &[Tet]) -> Result<Vec<Tet>, Memory>
     ensures { IfOk result (λ v. corners_of v.items ≡ filter (λ x. not (is_touched cuts.now x)) (corners_of tets.now)) }
 {
     let mut all = Vec::new(alloc);
@@ -137,7 +137,7 @@ fn refined_tets(alloc: Global, cuts: &[Cut], first: u32, tets: &[Tet]) -> Result
     ensures tets { IfOk result (λ r. corners_of r.tets.items ≡ filter (λ x. not (is_touched cuts.now x)) (corners_of tets.now) ++ flat_map (sub_all first cuts.now) (filter (λ x. is_touched cuts.now x) (corners_of tets.now))) }
     ensures new { IfOk result (λ r. r.new ≡ length (flat_map (sub_all first cuts.now) (filter (λ x. is_touched cuts.now x) (corners_of tets.now)))) }
 {
-    let mut all = untouched(alloc, cuts, tets)?;
+    let mut all = untouched_tets(alloc, cuts, tets)?;
     let pieces = pieces_of(alloc, cuts, first, tets)?;
     let new = pieces.len();
     all.extend_from_slice(&pieces)?;

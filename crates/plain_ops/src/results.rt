@@ -59,7 +59,7 @@ pub(crate) fn result_of(
 }
 
 /// Nothing is replaced.
-pub(crate) fn unchanged(alloc: Global, mesh: &Lists) -> Result<PlainResult, Memory>
+pub(crate) fn unchanged_result(alloc: Global, mesh: &Lists) -> Result<PlainResult, Memory>
     ensures { IfOk result (λ r. result_in r ≡ unchanged (mesh_of mesh.now)) }
 {
     let copy = copy_of(alloc, mesh)?;

@@ -7,7 +7,7 @@ ghost use Rattle.plain_ops.specs.PlainResults.{IsFoundIn, left_of, result_in};
 ghost use Rattle.std.specs.List.{filter, find, flat_map, list_any};
 ghost use Rattle.std.specs.Prelude.{IfOk, List, drop, [], ◌∷◌, false, not, ◌&&◌, ◌||◌, ◌++◌, ℕ, ◌≡◌};
 
-use crate::results::{PlainResult, exchange, unchanged};
+use crate::results::{PlainResult, exchange, unchanged_result};
 use grid::{Face, Memory, Tet};
 use mesh_types::Lists;
 use std::alloc::Global;
@@ -130,7 +130,7 @@ pub(crate) fn face_swap(
     ensures { IfOk result (λ r. result_in r ≡ face_swap (mesh_of mesh.now) a b c) }
 {
     match first_with_face(mesh.tets.as_slice(), Face([a, b, c])) {
-        None => unchanged(alloc, mesh),
+        None => unchanged_result(alloc, mesh),
         Some(tet) => swap_across(alloc, mesh, a, b, c, tet),
     }
 }
@@ -147,7 +147,7 @@ fn swap_across(
     ensures { IfOk result (λ r. result_in r ≡ swapped_across (mesh_of mesh.now) a b c tet.0 (find (is_across (a ∷ b ∷ c ∷ []) tet.0) (mesh_of mesh.now).tets)) }
 {
     match first_across(mesh.tets.as_slice(), tet, Face([a, b, c])) {
-        None => unchanged(alloc, mesh),
+        None => unchanged_result(alloc, mesh),
         Some(other) => swap_both(alloc, mesh, a, b, c, tet, other),
     }
 }
@@ -165,7 +165,7 @@ fn swap_both(
     ensures { IfOk result (λ r. result_in r ≡ swapped_at (mesh_of mesh.now) a b c tet.0 other.0 (first_outside tet.0 other.0)) }
 {
     match first_outside(tet, &other.0) {
-        None => unchanged(alloc, mesh),
+        None => unchanged_result(alloc, mesh),
         Some(e) => {
             let left = without(alloc, mesh.tets.as_slice(), tet)?;
             let kept = without(alloc, &left, other)?;
@@ -226,7 +226,7 @@ fn swap_ring(
     ensures { IfOk result (λ r. result_in r ≡ unhinged (mesh_of mesh.now) u v (corners_of gone.now)) }
 {
     if gone.is_empty() {
-        return unchanged(alloc, mesh);
+        return unchanged_result(alloc, mesh);
     }
     let tet = gone[0];
     let others = other_corners(alloc, gone)?;
@@ -246,7 +246,7 @@ fn unhinge(
     ensures { IfOk result (λ r. result_in r ≡ unhinged_at (mesh_of mesh.now) u v (corners_of gone.now) tet.0 outside) }
 {
     match outside {
-        None => unchanged(alloc, mesh),
+        None => unchanged_result(alloc, mesh),
         Some(c) => {
             let kept = off_edge(alloc, mesh.tets.as_slice(), u, v)?;
             let removed = Vec::from_slice(alloc, gone)?;

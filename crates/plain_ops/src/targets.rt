@@ -171,7 +171,7 @@ fn shift_coordinate(from: i32, mean: i32, side: i32, way: u8) -> i32
     }
 }
 
-fn shifted_along(axis: Axis, points: &[Point], ws: &[u32], side: i32, u: u32, way: u8) -> i32
+fn shift_along(axis: Axis, points: &[Point], ws: &[u32], side: i32, u: u32, way: u8) -> i32
     requires in_box { All (IsInBox largest_side) points.now }
     requires some { 0 < length ws.now }
     requires few { length ws.now ≤ most_points }
@@ -199,8 +199,8 @@ pub(crate) fn target(
 {
     let points = mesh.points.as_slice();
     let around = neighbours(alloc, mesh, u)?;
-    let x = shifted_along(Axis::X, points, &around, side, u, way);
-    let y = shifted_along(Axis::Y, points, &around, side, u, way);
-    let z = shifted_along(Axis::Z, points, &around, side, u, way);
+    let x = shift_along(Axis::X, points, &around, side, u, way);
+    let y = shift_along(Axis::Y, points, &around, side, u, way);
+    let z = shift_along(Axis::Z, points, &around, side, u, way);
     Ok(Point { x, y, z })
 }

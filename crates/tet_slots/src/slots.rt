@@ -165,7 +165,7 @@ impl Slots {
     }
 
     /// Slots of which the live ones are those that have u, in rising order. Takes no memory.
-    pub fn listed(&self, u: u32) -> &[u32]
+    pub fn at_point(&self, u: u32) -> &[u32]
         ensures there { All (λ i. i < length self.now.slots) result.now }
         ensures live { filter (λ i. (slot_at self.now.slots i).live) result.now ≡ numbers_of (has_corner u) 0 self.now.slots }
     {

@@ -192,7 +192,7 @@ impl Tracked {
         let places = self.places(u);
         let mut count = 0;
         for place in places {
-            if self.is_in(*place) && has_corner(&self.key(*place), v) {
+            if self.is_in(*place) && self.key(*place).has(v) {
                 count += 1;
             }
         }
@@ -258,11 +258,4 @@ impl Tracked {
         }
         Ok(faces)
     }
-}
-
-fn has_corner(face: &Face, u: u32) -> bool
-    ensures { result ≡ has face.now.0 u }
-{
-    let Face([a, b, c]) = *face;
-    a == u || b == u || c == u
 }

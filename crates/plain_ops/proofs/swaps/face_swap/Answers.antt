@@ -12,7 +12,7 @@ returns-in-None c =
     let m = mesh_of c.args.mesh.now in
     let p : List ℕ → Bool = λ x. has_face (c.args.a ∷ c.args.b ∷ c.args.c ∷ []) x || has_face (c.args.a ∷ c.args.c ∷ c.args.b ∷ []) x in
     let none : find p m.tets ≡ None = subst (λ (A : Type 0). A) (λ i. IsFoundIn p (corners_of (c.as_slice.ensures i)) (c.in-None.is i)) c.first_with_face.ensures in
-    subst (λ (o : Option (List ℕ)). IfOk c.unchanged.result (λ r. result_in r ≡ swapped_from m c.args.a c.args.b c.args.c o)) (sym none) c.unchanged.ensures
+    subst (λ (o : Option (List ℕ)). IfOk c.unchanged_result.result (λ r. result_in r ≡ swapped_from m c.args.a c.args.b c.args.c o)) (sym none) c.unchanged_result.ensures
 
 pub returns-in-Some : goal.returns-in-Some
 unfolding face_swap

@@ -11,7 +11,7 @@ returns-in-None c =
     let m = mesh_of c.args.mesh.now in
     let p = is_across (c.args.a ∷ c.args.b ∷ c.args.c ∷ []) c.args.tet.0 in
     let none : find p m.tets ≡ None = subst (λ (A : Type 0). A) (λ i. IsFoundIn p (corners_of (c.as_slice.ensures i)) (c.in-None.is i)) c.first_across.ensures in
-    subst (λ (o : Option (List ℕ)). IfOk c.unchanged.result (λ r. result_in r ≡ swapped_across m c.args.a c.args.b c.args.c c.args.tet.0 o)) (sym none) c.unchanged.ensures
+    subst (λ (o : Option (List ℕ)). IfOk c.unchanged_result.result (λ r. result_in r ≡ swapped_across m c.args.a c.args.b c.args.c c.args.tet.0 o)) (sym none) c.unchanged_result.ensures
 
 pub returns-in-Some : goal.returns-in-Some
 returns-in-Some c =

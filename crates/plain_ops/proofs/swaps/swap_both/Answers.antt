@@ -10,7 +10,7 @@ pub returns-in-None : goal.returns-in-None
 returns-in-None c =
     let m = mesh_of c.args.mesh.now in
     let none : first_outside c.args.tet.0 c.args.other.0 ≡ None = sym c.first_outside.ensures ∙ c.in-None.is in
-    subst (λ (o : Option ℕ). IfOk c.unchanged.result (λ r. result_in r ≡ swapped_at m c.args.a c.args.b c.args.c c.args.tet.0 c.args.other.0 o)) (sym none) c.unchanged.ensures
+    subst (λ (o : Option ℕ). IfOk c.unchanged_result.result (λ r. result_in r ≡ swapped_at m c.args.a c.args.b c.args.c c.args.tet.0 c.args.other.0 o)) (sym none) c.unchanged_result.ensures
 
 pub returns-in_ok-tracked-in-Some : goal.returns-in_ok-tracked-in-Some
 returns-in_ok-tracked-in-Some c =

@@ -10,7 +10,7 @@ use Rattle.plain_ops.proofs.swaps.swap_ring.Goals as goal
 pub returns-then-is_empty : goal.returns-then-is_empty
 returns-then-is_empty c =
     let gone = c.args.gone.now in
-    subst (λ (s : Result). IfOk c.unchanged.result (λ r. result_in r ≡ s)) (ring-none (mesh_of c.args.mesh.now) c.args.u c.args.v gone (eqb-true (length gone) 0 (sym c.if-is_empty.ensures))) c.unchanged.ensures
+    subst (λ (s : Result). IfOk c.unchanged_result.result (λ r. result_in r ≡ s)) (ring-none (mesh_of c.args.mesh.now) c.args.u c.args.v gone (eqb-true (length gone) 0 (sym c.if-is_empty.ensures))) c.unchanged_result.ensures
 
 pub returns : goal.returns
 returns c =

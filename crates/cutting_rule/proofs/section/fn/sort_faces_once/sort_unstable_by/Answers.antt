@@ -2,4 +2,4 @@ use Rattle.cutting_rule.proofs.Packing.{packed-order}
 use Rattle.cutting_rule.proofs.section.fn.sort_faces_once.sort_unstable_by.Goals as goal
 
 pub returns : goal.returns
-returns c = packed-order _ _ _ _ _ _ c.packed.ensures c.packed-2.ensures c.cmp.ensures
+returns c = packed-order _ _ _ _ _ _ c.pack.ensures c.pack-2.ensures c.cmp.ensures

@@ -4,7 +4,7 @@ use Rattle.mesh_store.specs.Parts.{mesh_in}
 use Rattle.mesh_store.proofs.ForCallers.{well_formed}
 use Rattle.local_ops.proofs.Aims.{aim-shift}
 use Rattle.local_ops.proofs.Once.{single-shift}
-use Rattle.local_ops.proofs.foreseeing.shift_seen.Goals as goal
+use Rattle.local_ops.proofs.foreseeing.see_shift.Goals as goal
 
 pub sight_at-requires-clause-aim : goal.sight_at-requires-clause-aim
 sight_at-requires-clause-aim c =

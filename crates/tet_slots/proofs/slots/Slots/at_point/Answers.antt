@@ -2,7 +2,7 @@ use Rattle.std.proofs.Common.{◌<◌, ◌≤◌, [], length, refl, arith}
 use Rattle.std.specs.List.{filter}
 use Rattle.tet_slots.specs.Slots.{slot_at}
 use Rattle.tet_slots.proofs.KeptLemmas.{having-below, having-found, having-none}
-use Rattle.tet_slots.proofs.slots.Slots.listed.Goals as goal
+use Rattle.tet_slots.proofs.slots.Slots.at_point.Goals as goal
 
 pub returns-then-u-len-clause-live : goal.returns-then-u-len-clause-live
 returns-then-u-len-clause-live c =

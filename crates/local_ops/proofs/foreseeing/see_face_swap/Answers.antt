@@ -11,8 +11,8 @@ use Rattle.local_ops.specs.Measures.{is_positive}
 use Rattle.local_ops.specs.Swaps.{AreSides, IsSeenWorse, three_of}
 use Rattle.local_ops.proofs.Swapped.{first-side, second-side, three-corners, inverted-seen}
 use Rattle.local_ops.proofs.Worsened.{first-positive, second-positive, worse-seen}
-use Rattle.local_ops.proofs.foreseeing.face_swap_seen.Goals as goal
-use Rattle.local_ops.proofs.foreseeing.face_swap_seen.Goals.{In-Some, After-tet, After-are_three_positive}
+use Rattle.local_ops.proofs.foreseeing.see_face_swap.Goals as goal
+use Rattle.local_ops.proofs.foreseeing.see_face_swap.Goals.{In-Some, After-tet, After-are_three_positive}
 
 sides-are : (c : In-Some) → AreSides c.args.store.now.parts.slots c.args.a c.args.b c.args.c c.in-Some.sides
 sides-are c = subst (λ (ss : List Slot). AreSides ss c.args.a c.args.b c.args.c c.in-Some.sides) c.slots-slots.ensures.slots c.in-Some.ensures

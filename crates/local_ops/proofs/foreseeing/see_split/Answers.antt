@@ -7,7 +7,7 @@ use Rattle.mesh_store.proofs.ForCallers.{well_formed}
 use Rattle.local_ops.proofs.Aims.{aim-split}
 use Rattle.local_ops.proofs.Ends.{split_ends}
 use Rattle.local_ops.proofs.Once.{single-split}
-use Rattle.local_ops.proofs.foreseeing.split_seen.Goals as goal
+use Rattle.local_ops.proofs.foreseeing.see_split.Goals as goal
 
 pub point-requires : goal.point-requires
 point-requires c =

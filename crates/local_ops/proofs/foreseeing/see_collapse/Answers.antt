@@ -18,7 +18,7 @@ use Rattle.local_ops.proofs.Ends.{collapse_ends}
 use Rattle.local_ops.proofs.Means.{in-grid}
 use Rattle.local_ops.proofs.NearSlots.{numbers-there}
 use Rattle.local_ops.proofs.Once.{single-collapse}
-use Rattle.local_ops.proofs.foreseeing.collapse_seen.Goals as goal
+use Rattle.local_ops.proofs.foreseeing.see_collapse.Goals as goal
 
 pub point-at-requires : goal.point-at-requires
 point-at-requires c =
