@@ -9,7 +9,7 @@ mod touching;
 mod wanted;
 
 pub use first::{first_wanted, first_wanted_among};
-pub use phases::{phase, phase_among};
+pub use phases::{phase, phase_among, refine_among, wanted_cuts};
 pub use sections::{section, section_among};
 pub use touching::{Touched, Touching, find_touching};
 pub use wanted::corner_points;

@@ -9,9 +9,11 @@ ghost use Rattle.grid.specs.Planes.{IsDegenerate};
 ghost use Rattle.mesh_store.specs.Changes.{IsGrown, IsSameTransaction};
 ghost use Rattle.mesh_store.specs.Parts.{mesh_in, rolled_back};
 ghost use Rattle.mesh_store.specs.Sound.{IsSoundStore};
+ghost use Rattle.mesh_types.specs.CutLists.{AreCuts};
 ghost use Rattle.mesh_types.specs.CuttingRule.{splits};
 ghost use Rattle.mesh_types.specs.Phases.{cut_at, phase, wanted_cuts};
-ghost use Rattle.std.specs.Prelude.{All, Err, IfOk, IsSome, OnErr, OnOk, [], length, map, true, ◌+◌, ◌<◌, ◌∷◌, ◌≡◌};
+ghost use Rattle.mesh_types.specs.Refines.{refine};
+ghost use Rattle.std.specs.Prelude.{All, Err, IfOk, IsSome, OnErr, OnOk, [], length, map, nat_abs, true, ◌+◌, ◌<◌, ◌∷◌, ◌≡◌};
 
 use crate::touching::{Touching, find_touching, touching_after};
 use crate::wanted::near_wanted;
@@ -46,7 +48,9 @@ fn cuts_of(alloc: Global, plane: &Plane, slots: &Slots, edges: &[Edge]) -> Resul
     Ok(cuts)
 }
 
-fn wanted_cuts(
+/// The cuts of the edges that a phase wants, in rising order, where the tetrahedra that the triangle
+/// touches are known.
+pub fn wanted_cuts(
     alloc: Global,
     store: &Store,
     triangle: &CuttingTriangle,
@@ -56,6 +60,8 @@ fn wanted_cuts(
     requires index { i < 4 }
     requires near { AreTouching store.now.parts.points store.now.parts.slots triangle.now near.now }
     ensures cuts { IfOk result (λ v. v.items ≡ wanted_cuts (mesh_in store.now.parts) triangle.now i) }
+    ensures are_cuts { IfOk result (λ v. AreCuts (length store.now.parts.points) v.items) }
+    ensures in_box { IfOk result (λ v. All (λ e. IsInBox (nat_abs store.now.side) e.at) v.items) }
     ensures sound { IsSoundStore store.now.side store.now.parts }
 {
     let slots = store.slots();
@@ -72,6 +78,23 @@ fn back_without_memory(store: &mut Store) -> StoreIssue
 {
     store.rollback();
     StoreIssue::Memory
+}
+
+/// Cuts these edges, and answers how many there are.
+fn cut_edges(store: &mut Store, cuts: &[Cut]) -> Result<u32, StoreIssue>
+    requires open { IsSome store.old.at_begin }
+    requires cuts { AreCuts (length store.old.parts.points) cuts.now }
+    requires in_box { All (λ e. IsInBox (nat_abs store.old.side) e.at) cuts.now }
+    ensures mesh { OnOk result (mesh_in store.new.parts ≡ refine (mesh_in store.old.parts) cuts.now) }
+    ensures count { IfOk result (λ k. length store.old.parts.points + k ≡ length store.new.parts.points) }
+    ensures grown { OnOk result (IsGrown store.old.parts store.new.parts) }
+    ensures goes_on { OnOk result (IsSameTransaction store.old store.new) }
+    ensures within { OnOk result (IsWithinLimits (mesh_in store.new.parts)) }
+    ensures full { result ≡ Err StoreIssue.Full → ¬ IsWithinLimits (refine (mesh_in store.old.parts) cuts.now) }
+    ensures err { OnErr result (store.new ≡ rolled_back store.old) }
+{
+    store.refine(cuts)?;
+    Ok(cuts.len() as u32)
 }
 
 /// Cuts the edges that a phase wants, and answers how many there were.
@@ -94,10 +117,7 @@ fn cut_wanted(
     ensures err { OnErr result (store.new ≡ rolled_back store.old) }
 {
     match wanted_cuts(alloc, store, triangle, i, near) {
-        Ok(cuts) => {
-            store.refine(&cuts)?;
-            Ok(cuts.len() as u32)
-        }
+        Ok(cuts) => cut_edges(store, &cuts),
         Err(Memory) => Err(back_without_memory(store)),
     }
 }
@@ -148,8 +168,37 @@ pub fn phase_among(
     ensures full { result ≡ Err StoreIssue.Full → ¬ IsWithinLimits (phase (mesh_in store.old.parts) triangle.now i) }
     ensures err { OnErr result (store.new ≡ rolled_back store.old) }
 {
+    match wanted_cuts(alloc, store, triangle, i, near) {
+        Ok(cuts) => refine_among(alloc, store, triangle, &cuts, near),
+        Err(Memory) => Err(back_without_memory(store)),
+    }
+}
+
+/// Cuts these edges, and answers how many there are, where the tetrahedra that the triangle touches are
+/// known; then they are known of the new mesh too. Refused where a limit would be passed, and then the
+/// mesh is the one at begin and the store is closed, as after want of memory.
+pub fn refine_among(
+    alloc: Global,
+    store: &mut Store,
+    triangle: &CuttingTriangle,
+    cuts: &[Cut],
+    near: &mut Touching,
+) -> Result<u32, StoreIssue>
+    requires open { IsSome store.old.at_begin }
+    requires cuts { AreCuts (length store.old.parts.points) cuts.now }
+    requires in_box { All (λ e. IsInBox (nat_abs store.old.side) e.at) cuts.now }
+    requires near { AreTouching store.old.parts.points store.old.parts.slots triangle.now near.old }
+    ensures mesh { OnOk result (mesh_in store.new.parts ≡ refine (mesh_in store.old.parts) cuts.now) }
+    ensures count { IfOk result (λ k. length store.old.parts.points + k ≡ length store.new.parts.points) }
+    ensures grown { OnOk result (IsGrown store.old.parts store.new.parts) }
+    ensures goes_on { OnOk result (IsSameTransaction store.old store.new) }
+    ensures within { OnOk result (IsWithinLimits (mesh_in store.new.parts)) }
+    ensures near { OnOk result (AreTouching store.new.parts.points store.new.parts.slots triangle.now near.new) }
+    ensures full { result ≡ Err StoreIssue.Full → ¬ IsWithinLimits (refine (mesh_in store.old.parts) cuts.now) }
+    ensures err { OnErr result (store.new ≡ rolled_back store.old) }
+{
     let first = store.slots().made();
-    let count = cut_wanted(alloc, store, triangle, i, near)?;
+    let count = cut_edges(store, cuts)?;
     match touching_after(
         alloc,
         triangle,

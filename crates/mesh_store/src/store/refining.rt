@@ -3,19 +3,31 @@ ghost use Rattle.grid.specs.Boxes.{IsInBox};
 ghost use Rattle.grid.specs.Limits.{most_points, most_made};
 ghost use Rattle.grid.specs.Meshes.{IsTriple, IsWithinLimits};
 ghost use Rattle.grid.specs.Simplices.{IsTet};
+ghost use Rattle.grid.specs.Views.{corners_of};
 ghost use Rattle.mesh_store.specs.Changes.{IsRefined, IsSameTransaction, IsSplit, points_made, slots_split, with_parts};
 ghost use Rattle.mesh_store.specs.Parts.{mesh_in};
 ghost use Rattle.mesh_types.specs.CutLists.{AreCuts};
-ghost use Rattle.mesh_types.specs.Refines.{refine};
-ghost use Rattle.std.specs.Prelude.{All, Err, IsSome, OnOk, length, nat_abs, ◌+◌, ◌<◌, ◌≡◌};
+ghost use Rattle.mesh_types.specs.Refines.{new_pieces, refine};
+ghost use Rattle.std.specs.Prelude.{All, Err, IfOk, IsSome, OnOk, length, nat_abs, ◌+◌, ◌<◌, ◌^◌, ◌≡◌};
 
 use super::Store;
 use crate::issue::StoreIssue;
 use crate::{splitting, touching};
-use grid::MOST_POINTS;
+use grid::{MOST_POINTS, Memory, Tet};
 use mesh_types::Cut;
 
 impl Store {
+    /// The tetrahedra that `refine` would put in place of those that have both ends of a cut, in its order.
+    /// Their new corners are numbered from the number of points on. Nothing changes.
+    pub fn pieces(&self, cuts: &[Cut]) -> Result<Vec<Tet>, Memory>
+        requires cuts { AreCuts (length self.now.parts.points) cuts.now }
+        requires room { length self.now.parts.points + length cuts.now < 2 ^ 32 }
+        ensures { IfOk result (λ w. corners_of w.items ≡ new_pieces (mesh_in self.now.parts) cuts.now) }
+    {
+        let gone = touching::touched_slots(self.alloc, &self.slots, cuts)?;
+        splitting::tet_pieces(self.alloc, &self.slots, &gone, cuts, self.slots.points())
+    }
+
     /// Refines the mesh.
     pub(super) fn refine_open(&mut self, cuts: &[Cut]) -> Result<(), StoreIssue>
         requires open { IsSome self.old.at_begin }

@@ -76,6 +76,26 @@ fn rolls_back(rt: HostRuntime) -> Result<(), Fail> {
 }
 
 #[test]
+fn gives_the_pieces_at_an_edge(rt: HostRuntime) -> Result<(), Fail> {
+    let store = cube(rt.alloc())?;
+    let cuts = [Cut {
+        u: 0,
+        v: 3,
+        at: point(8, 8, 0),
+    }];
+    let pieces = store.pieces(&cuts)?;
+    let expected = [
+        Tet([8, 1, 3, 7]),
+        Tet([0, 1, 8, 7]),
+        Tet([8, 3, 2, 7]),
+        Tet([0, 8, 2, 7]),
+    ];
+    assert_eq!(rt; pieces.as_slice(), expected.as_slice());
+    assert_eq!(rt; store.slots().points(), 8);
+    Ok(())
+}
+
+#[test]
 fn commits(rt: HostRuntime) -> Result<(), Fail> {
     let alloc = rt.alloc();
     let mut store = cube(alloc)?;
