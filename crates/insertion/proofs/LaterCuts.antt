@@ -23,12 +23,18 @@ use Rattle.cutting_rule.specs.Touching.{touches, IsReach}
 use Rattle.grid.proofs.ForCallers.{Each-weaker, Each-both, Each-of_flat_map, has_cases, any-map}
 use Rattle.mesh_types.proofs.ForCallers.{Each-map, Each-filter, Each-passed, Each-in_order_once, any_among, has-among}
 use Rattle.cutting_rule.proofs.ForCallers.{length-once, length-wanted_in, untouched-none, wanted_cuts-AreCuts}
-use Rattle.insertion.specs.Lasting.{near_tets}
 use Rattle.insertion.proofs.FewPieces.{IsMarked}
 
 -- a tetrahedron meets the box about the triangle and touches the triangle
 abbrev pub is_near : List Point → Tri → Point → Point → List ℕ → Bool
 is_near points t lo hi x = is_met lo hi (points_of points x) && touches t (points_of points x)
+
+abbrev pub near_tets : List Point → Tri → Point → Point → List (List ℕ) → List (List ℕ)
+near_tets points t lo hi xs = filter (is_near points t lo hi) xs
+
+-- not all corners lie on the triangle's plane
+abbrev pub HasCornerOff : List Point → Tri → List ℕ → Type 0
+HasCornerOff points t x = list_all (lies_on (section_plane t)) (points_of points x) ≡ false
 
 -- ---- the edge of two corners
 abbrev pairs : List ℕ → List (List ℕ)

@@ -15,4 +15,5 @@ mod LaterCuts
 mod Room
 mod NearTets
 mod Early
+mod PieceCorners
 pub mod ForCallers

@@ -1,5 +1,5 @@
 -- The slots that a search finds are those of the tetrahedra near the triangle, and their signs tell a corner off its plane.
-use Rattle.std.proofs.Common.{◌≡◌, ℕ, suc, pos, Bool, true, false, ◌&&◌, cond, List, [], ◌∷◌, map, length, All, refl, sym, ap, ◌∙◌, subst, inl, inr}
+use Rattle.std.proofs.Common.{◌≡◌, ℕ, suc, pos, Bool, true, false, ◌&&◌, cond, List, [], ◌∷◌, map, length, get_or, All, refl, sym, ap, ◌∙◌, subst, inl, inr}
 use Rattle.std.specs.List.{filter, list_all, AllByRecursion as Each}
 use Rattle.std.specs.Ordering.{int_eq}
 use Rattle.std.proofs.lemmas.Bool.{cases_Bool}
@@ -18,8 +18,8 @@ use Rattle.mesh_store.specs.Parts.{live_tets}
 use Rattle.cutter.specs.declared.touching.Touched.{Touched}
 use Rattle.cutter.specs.declared.touching.Touching.{Touching}
 use Rattle.cutter.specs.Found.{AreTouching, is_touching, tets_at, touched_at}
-use Rattle.insertion.specs.Lasting.{near_tets, HasCornerOff}
-use Rattle.insertion.proofs.LaterCuts.{is_near}
+use Rattle.cutting_rule.specs.Touching.{signs_at}
+use Rattle.insertion.proofs.LaterCuts.{is_near, near_tets, HasCornerOff}
 
 -- ---- the tetrahedra of the slots found
 numbers-later : (p : Slot → Bool) (k : ℕ) (ss : List Slot) → numbers_of p (suc k) ss ≡ map suc (numbers_of p k ss)
@@ -69,3 +69,12 @@ near-off_all points slots t near touching h =
     let signs : Each HasSignOff (map (touched_at points slots t) ns) = subst (Each HasSignOff) touching.found (recursion_from_All HasSignOff near.slots.items h) in
     All-from_recursion (HasCornerOff points t) (near_tets points t near.reach.lo near.reach.hi (live_tets slots))
     (subst (Each (HasCornerOff points t)) (near-found points t near.reach.lo near.reach.hi slots) (off-at points slots t ns signs))
+
+-- not all signs of the points of these corners are 0
+abbrev pub HasPointSignOff : List Point → Tri → List ℕ → Type 0
+HasPointSignOff points t x = list_all (λ s. int_eq s (pos 0)) (signs_at t (points_of points x)) ≡ false
+
+pub signs-off_all : (points : List Point) (t : Tri) (xs : List (List ℕ)) → All (HasPointSignOff points t) xs → All (HasCornerOff points t) xs
+unfolding lies_on
+signs-off_all points t xs h = λ k d lt.
+    sym (list_all-map (λ s. int_eq s (pos 0)) (snap_sign (section_plane t)) (points_of points (get_or xs k d))) ∙ h k d lt

@@ -23,9 +23,8 @@ use Rattle.grid.proofs.ForCallers.{Each-weaker, Each-both, Each-append, Each-of_
 use Rattle.mesh_types.proofs.ForCallers.{Each-filter, Each-passed, cornered_of}
 use Rattle.cutting_rule.proofs.ForCallers.{until-well_formed}
 use Rattle.cutter.proofs.ForCallers.{point-kept, points-kept}
-use Rattle.insertion.specs.Lasting.{near_tets, HasCornerOff}
 use Rattle.insertion.proofs.FewPieces.{IsMarked, IsCutFew, few-pieces, near-few, some-unmarked, stays}
-use Rattle.insertion.proofs.LaterCuts.{is_near, is_old_on, IsLaterCut, few-cuts, later-cuts, later-marked, near-touched, new-off, off-off}
+use Rattle.insertion.proofs.LaterCuts.{HasCornerOff, is_near, near_tets, is_old_on, IsLaterCut, few-cuts, later-cuts, later-marked, near-touched, new-off, off-off}
 
 -- ---- a corner off the plane
 record IsOff (points : List Point) (t : Tri) (x : List ℕ) : Type 0 where

@@ -11,7 +11,7 @@ use Rattle.grid.specs.Planes.{IsDegenerate}
 use Rattle.mesh_types.specs.Insertion.{IsUncovered}
 use Rattle.cutting_rule.specs.Until.{until}
 use Rattle.mesh_store.specs.Changes.{IsGrown}
-use Rattle.mesh_store.specs.Parts.{Parts, StoreView, mesh_in, live_tets}
+use Rattle.mesh_store.specs.Parts.{Parts, StoreView, mesh_in, live_tets, rolled_back}
 use Rattle.mesh_store.specs.Sound.{IsSoundStore}
 use Rattle.grid.specs.declared.shapes.Point.{Point}
 use Rattle.grid.specs.Limits.{largest_side}
@@ -30,6 +30,9 @@ start-is start side v h = ap (λ o. unwrap_or o v.parts) h.begin
 
 pub closed-old : (old : StoreView) → old.at_begin ≡ None → closed old.parts old.side ≡ old
 closed-old old e = λ i. record { parts = old.parts; at_begin = sym e i; side = old.side }
+
+pub back-to : (old begun now : StoreView) → old.at_begin ≡ None → begun ≡ record old { at_begin = Some old.parts } → now ≡ rolled_back begun → now ≡ old
+back-to old begun now e b r = r ∙ (ap rolled_back b ∙ closed-old old e)
 
 -- what is known of a store that some phases cut
 pub cut-from : (i : ℕ) (start : Parts) (side : ℤ) (now : StoreView) (t : Tri) → IsSoundStore side start → All (IsPositive start.points) (live_tets start.slots) → IsOpenFrom start side now → IsSoundStore now.side now.parts

@@ -1,15 +1,12 @@
--- Of a mesh that the first phase of an insertion gave: what the later phases leave as it is.
-use Rattle.std.specs.Prelude.{◌≡◌, ℕ, ◌≤◌, false, ◌&&◌, List, []}
-use Rattle.std.specs.List.{filter, list_all}
+-- What the first phase of an insertion makes, and what the later phases leave as it is.
+use Rattle.std.specs.Prelude.{◌≡◌, ℕ, ◌≤◌, List, [], ◌++◌, map}
 use Rattle.grid.specs.declared.shapes.Point.{Point}
 use Rattle.grid.specs.declared.shapes.Tri.{Tri}
 use Rattle.grid.specs.Determinants.{IsPositive}
 use Rattle.grid.specs.Meshes.{Mesh, IsWithinLimits}
-use Rattle.mesh_types.specs.CuttingRule.{lies_on, section_plane}
+use Rattle.mesh_types.specs.declared.cut.Cut.{Cut}
 use Rattle.mesh_types.specs.Insertion.{NamesFirst}
-use Rattle.mesh_types.specs.Phases.{points_of, wanted_in, cut_by}
-use Rattle.cutting_rule.specs.Bounds.{is_met}
-use Rattle.cutting_rule.specs.Touching.{touches}
+use Rattle.mesh_types.specs.Phases.{wanted_in, cut_by}
 
 -- no phase after the first wants an edge of the tetrahedron
 abbrev pub Lasts : List Point → Tri → List ℕ → Type 0
@@ -19,13 +16,9 @@ Lasts points t x = (i : ℕ) → 1 ≤ i → i ≤ 3 → wanted_in points t i x 
 abbrev pub IsLastingFault : List Point → Tri → List ℕ → Type 0
 IsLastingFault points t x = (¬ IsPositive points x) × Lasts points t x
 
--- the tetrahedra that meet the box from lo to hi and touch the triangle
-abbrev pub near_tets : List Point → Tri → Point → Point → List (List ℕ) → List (List ℕ)
-near_tets points t lo hi xs = filter (λ x. is_met lo hi (points_of points x) && touches t (points_of points x)) xs
-
--- not all corners lie on the triangle's plane
-abbrev pub HasCornerOff : List Point → Tri → List ℕ → Type 0
-HasCornerOff points t x = list_all (lies_on (section_plane t)) (points_of points x) ≡ false
+-- the points, and then those of the cuts
+abbrev pub points_with : List Point → List Cut → List Point
+points_with points cuts = points ++ map (λ e. e.at) cuts
 
 -- the insertion of the triangle into m ends with these corners as the first that are not positive
 pub record EndsInverted (m : Mesh) (t : Tri) (named : List Point) : Type 0 where

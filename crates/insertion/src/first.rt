@@ -8,7 +8,7 @@ ghost use Rattle.grid.specs.Views.{triples_of};
 ghost use Rattle.mesh_store.specs.Parts.{live_tets};
 ghost use Rattle.mesh_types.specs.Insertion.{IsStray, NamesFirst};
 ghost use Rattle.mesh_types.specs.Phases.{points_of};
-ghost use Rattle.std.specs.Prelude.{All, false, IsTrue, MatchOption, length, true, ℕ, ◌<◌, ◌≡◌, ◌≤◌, ◌↔◌};
+ghost use Rattle.std.specs.Prelude.{All, false, IsTrue, List, MatchOption, length, true, ℕ, ◌<◌, ◌≡◌, ◌≤◌, ◌↔◌};
 ghost use Rattle.tet_slots.specs.Slots.{slot_at};
 
 use cutter::corner_points;
@@ -16,19 +16,21 @@ use grid::{Face, Point, Tet, Tri, det};
 use tet_slots::Slots;
 use tri_distance::near;
 
+/// Whether the tetrahedron of these corners is positive.
+pub(crate) fn is_positive_at(corners: &[Point; 4]) -> bool
+    requires { All (IsInBox largest_side) corners.now }
+    ensures { (points : List Point) (x : List ℕ) → corners.now ≡ points_of points x → IsTrue result ↔ IsPositive points x }
+{
+    det(corners[0], corners[1], corners[2], corners[3]) > 0
+}
+
 /// Whether the tetrahedron is positive.
-pub(crate) fn is_positive(slots: &Slots, tet: Tet) -> bool
+fn is_positive(slots: &Slots, tet: Tet) -> bool
     requires in_box { All (IsInBox largest_side) slots.now.points }
     requires there { IsTet (length slots.now.points) tet.0 }
     ensures { IsTrue result ↔ IsPositive slots.now.points tet.0 }
 {
-    let Tet([a, b, c, d]) = tet;
-    det(
-        slots.point(a),
-        slots.point(b),
-        slots.point(c),
-        slots.point(d),
-    ) > 0
+    is_positive_at(&corner_points(slots, tet))
 }
 
 /// The corners of the first live tetrahedron that is not positive, where those in the slots below

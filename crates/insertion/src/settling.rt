@@ -11,7 +11,6 @@ ghost use Rattle.std.specs.Prelude.{All, IfOk, None, OnErr, OnOk, length, ℕ, �
 
 use crate::cutting::{Cuts, cut_among};
 use crate::judging::{Counts, Judged, Touched, judge};
-use crate::lasting::inverted_early;
 use cutting_rule::CuttingTriangle;
 use envelope_tree::Envelope;
 use grid::Memory;
@@ -68,8 +67,7 @@ fn settle(
     }
 }
 
-/// Goes on after the first phase: with the other phases, or where that phase tells already that they will
-/// leave a tetrahedron that is not positive, with the mesh before the cuts.
+/// Goes on after the first phase with the other phases, and settles what they leave.
 pub(crate) fn go_on(
     alloc: Global,
     store: &mut Store,
@@ -95,10 +93,6 @@ pub(crate) fn go_on(
     ensures tiles { (l : ℕ) → Tiles (mesh_in (start_of store.old)) l → OnOk result (Tiles (mesh_in store.new.parts) l) }
     ensures covered { All (IsCovered env.now e (start_of store.old).points) (mesh_in (start_of store.old)).tracked → OnOk result (All (IsCovered env.now e store.new.parts.points) (mesh_in store.new.parts).tracked) }
 {
-    if let Some(corners) = inverted_early(alloc, store, triangle, &cuts.near, before.made) {
-        store.rollback();
-        return Ok(Outcome::RolledBack(Defect::Inverted(corners)));
-    }
     match cut_among(alloc, store, triangle, cuts, 1, 4) {
         Ok(cuts) => settle(alloc, store, env, t, e, before, triangle, cuts),
         Err(StoreIssue::Full) => Ok(Outcome::RolledBack(Defect::Full)),

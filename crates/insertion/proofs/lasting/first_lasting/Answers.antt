@@ -1,20 +1,25 @@
-use Rattle.std.proofs.Common.{◌∙◌, Ok, ap, arith, below_more}
-use Rattle.mesh_types.specs.Phases.{points_of}
-use Rattle.cutter.proofs.ForCallers.{names-first}
-use Rattle.insertion.specs.Lasting.{IsLastingFault}
+use Rattle.std.proofs.Common.{Ok, [], ap, below_more}
+use Rattle.grid.specs.declared.shapes.Tet.{Tet}
+use Rattle.cutting_rule.proofs.ForCallers.{names-at}
+use Rattle.insertion.specs.Lasting.{IsLastingFault, points_with}
+use Rattle.insertion.proofs.PieceCorners.{corners-in}
 use Rattle.insertion.proofs.lasting.first_lasting.Goals as goal
+
+pub points_after-corners-requires : goal.points_after-corners-requires
+points_after-corners-requires c = c.requires.tets c.loop-tet.tet-index _ c.loop-tet-test.true
+
+pub is_lasting_fault-requires : goal.is_lasting_fault-requires
+is_lasting_fault-requires c = record { in_box = corners-in c.args.slots.now.points c.args.cuts.now c.points_after-corners.result _ c.points_after-corners.ensures c.requires.in_box (c.requires.tets c.loop-tet.tet-index _ c.loop-tet-test.true) }
 
 pub returns-then-is_fault : goal.returns-then-is_fault
 returns-then-is_fault c =
-    let points = c.args.slots.now.points in
-    let slots = c.args.slots.now.slots in
-    let found = ap Ok c.if-is_fault.true in
-    names-first points (IsLastingFault points c.args.triangle.now) slots c.loop-slot.slot c.corner_points.result (omega (arith, c.loop-slot.invariant.end))
-    (c.in_ok-is_fault.ensures.live found) (c.in_ok-is_fault.ensures.yes found) c.loop-slot.invariant.earlier
-    (c.corner_points.ensures ∙ ap (λ t. points_of points t.0) c.tet.ensures.value)
+    let points = points_with c.args.slots.now.points c.args.cuts.now in
+    let none : Tet = record { 0 = [] } in
+    names-at (λ (t : Tet). t.0) (IsLastingFault points c.args.triangle.now) points c.args.pieces.now c.loop-tet.tet-index none c.points_after-corners.result c.loop-tet-test.true
+    c.loop-tet.invariant
+    (c.in_ok-is_fault.ensures.yes points c.points_after-corners.ensures (ap Ok c.if-is_fault.true)) c.points_after-corners.ensures
 
-pub loop-slot-preserved : goal.loop-slot-preserved
-loop-slot-preserved c = record {
-  earlier = below_more _ _ c.loop-slot.invariant.earlier (c.in_ok-is_fault.ensures.no (ap Ok c.if-is_fault.false));
-  end = c.made-slot-end.ensures.count;
-}
+pub loop-tet-preserved : goal.loop-tet-preserved
+loop-tet-preserved c =
+    let points = points_with c.args.slots.now.points c.args.cuts.now in
+    below_more _ _ c.loop-tet.invariant (c.in_ok-is_fault.ensures.no points c.points_after-corners.ensures (ap Ok c.if-is_fault.false))

@@ -1,40 +1,15 @@
-use Rattle.std.proofs.Common.{◌≡◌, ◌∙◌, ◌<◌, sym, ap, subst, length, Err, All, IfOk, OnErr, arith}
+use Rattle.std.proofs.Common.{◌≡◌, ◌∙◌, sym, ap, subst, length, Err, All, IfOk, OnErr, arith}
 use Rattle.grid.specs.Envelopes.{triangle_at}
 use Rattle.grid.specs.Meshes.{IsWithinLimits, Tiles}
 use Rattle.mesh_types.specs.Insertion.{IsInsertion}
 use Rattle.mesh_types.specs.Phases.{cut_by}
 use Rattle.mesh_store.specs.Parts.{Parts, StoreView, mesh_in}
-use Rattle.mesh_store.proofs.ForCallers.{well_formed}
 use Rattle.cutting_rule.specs.Until.{until}
-use Rattle.cutting_rule.proofs.ForCallers.{full-first, inverted-first}
+use Rattle.cutting_rule.proofs.ForCallers.{full-first}
 use Rattle.insertion.specs.Bare.{IsCovered}
-use Rattle.insertion.specs.Lasting.{EndsInverted}
 use Rattle.insertion.specs.Progress.{start_of, closed, IsOpenFrom}
-use Rattle.insertion.proofs.Old.{old-positive}
 use Rattle.insertion.proofs.Starting.{start-is, cut-from}
 use Rattle.insertion.proofs.settling.go_on.Goals as goal
-
-pub inverted_early-requires-clause-positive : goal.inverted_early-requires-clause-positive
-inverted_early-requires-clause-positive c = λ j lt live.
-    let v = c.args.store.now in
-    let h = c.requires.cut in
-    old-positive (start_of v) v.parts h.open_from.grown h.sound.tets_are h.positive j (subst (λ n. j < n) c.requires.made lt) live
-
-pub returns-in-Some-clause-outcome : goal.returns-in-Some-clause-outcome
-returns-in-Some-clause-outcome c =
-    let v = c.args.store.now in
-    let h = c.requires.cut in
-    let m = mesh_in (start_of v) in
-    let t = triangle_at c.args.env.now c.args.t in
-    let cut : mesh_in v.parts ≡ until m c.args.triangle.now 1 = h.mesh ∙ ap (λ t. until m t 1) (sym c.requires.is) in
-    let ends : EndsInverted m t c.in-Some.corners = subst (λ t. EndsInverted m t c.in-Some.corners) c.requires.is (c.in-Some.ensures m (well_formed v.side (start_of v) h.sound) cut) in (
-      inverted-first c.args.env.now c.args.t c.args.e m (cut_by m t) h.some_area ends.within c.in-Some.corners ends.inverted,
-      ap (λ (w : StoreView). mesh_in w.parts) c.rollback.ensures,
-    )
-
-pub returns-in-Some-clause-covered : goal.returns-in-Some-clause-covered
-returns-in-Some-clause-covered c = λ h.
-    subst (λ (w : StoreView). All (IsCovered c.args.env.now c.args.e w.parts.points) (mesh_in w.parts).tracked) (sym c.rollback.ensures) h
 
 pub settle-requires-clause-cut : goal.settle-requires-clause-cut
 settle-requires-clause-cut c =
